@@ -1,0 +1,16 @@
+-- The head of a response. The bounds are this project's own.
+use Rattle.std.specs.Prelude.{ℕ, ◌≡◌, ◌≤◌, true, List, length}
+use Rattle.nk_base.specs.declared.field.Field.{Field}
+use Rattle.nk_base.specs.Fields.{are_good_fields}
+
+-- the code and the fields of a response
+pub record HeadParts : Type 0 where
+  pub code : ℕ
+  pub fields : List Field
+
+-- a code of three digits, and at most 64 fields, all good
+pub record IsGoodHead (head : HeadParts) : Type 0 where
+  pub least : 100 ≤ head.code
+  pub most : head.code ≤ 999
+  pub count : length head.fields ≤ 64
+  pub good : are_good_fields head.fields ≡ true

@@ -1,0 +1,9 @@
+pub mod Fields
+pub mod Growing
+pub mod HeadAnswers
+pub mod Heads
+pub mod Outs
+pub mod Pieces
+pub mod Queue
+pub mod Ranges
+pub mod Status

@@ -1,0 +1,251 @@
+// Header fields and the head of a response. After Firefox's nsHttpHeaderArray and nsHttpResponseHead in outline; the
+// lengths, and names in lower case only, are this project's own.
+
+ghost use Rattle.std.specs.Prelude.{◌≡◌, ◌++◌, ◌∷◌, ◌<◌, ◌↔◌, [], length, slice_get, IsTrue, IfOk, OnOk, OnErr, Some};
+ghost use Rattle.nk_base.specs.Fields.{is_name_byte, is_value_byte, is_good_name, is_good_value, is_good_field, are_good_fields};
+ghost use Rattle.nk_base.specs.Heads.{IsGoodHead};
+ghost use Rattle.nk_base.specs.HeadAnswers.{head_answer};
+
+use crate::status::Memory;
+use bytes::Bytes;
+use http::StatusCode;
+use std::alloc::Global;
+use std::marker::Model;
+
+/// A field's name: bytes that are shared by all that hold it. It is good where it has 1 to 64 bytes, each of a to z,
+/// 0 to 9 or a mark that HTTP's tokens may have.
+#[derive(Drop)]
+pub struct Name {
+    bytes: Bytes,
+}
+
+impl Model for Name {
+    ghost use Rattle.std.specs.Prelude.{List, ℕ};
+
+    ghost Value = { List ℕ };
+
+    ghost view = { λ s. s.bytes };
+}
+
+impl Name {
+    /// The name with these bytes, good or not.
+    pub fn new(alloc: Global, source: &[u8]) -> Result<Name, Memory>
+        ensures { IfOk result (λ r. r ≡ source.now) }
+    {
+        match Bytes::copy_from_slice(alloc, source) {
+            Ok(bytes) => Ok(Name { bytes }),
+            Err(_) => Err(Memory),
+        }
+    }
+
+    /// An equal name over the same bytes.
+    pub fn share(&self) -> Result<Name, Memory>
+        ensures { IfOk result (λ r. r ≡ self.now) }
+    {
+        match self.bytes.clone() {
+            Ok(bytes) => Ok(Name { bytes }),
+            Err(_) => Err(Memory),
+        }
+    }
+
+    /// Whether the two have the same bytes.
+    pub fn same(&self, other: &Name) -> bool
+        ensures { IsTrue result ↔ (self.now ≡ other.now) }
+    {
+        self.bytes.as_slice() == other.bytes.as_slice()
+    }
+
+    /// Its bytes.
+    pub fn as_slice(&self) -> &[u8]
+        ensures { result.now ≡ self.now }
+    {
+        self.bytes.as_slice()
+    }
+}
+
+/// A field's value: bytes that are shared by all that hold it. It is good where it has 1 to 8,192 bytes from 0x20 to
+/// 0x7e, the first and the last not a space.
+#[derive(Drop)]
+pub struct Value {
+    bytes: Bytes,
+}
+
+impl Model for Value {
+    ghost use Rattle.std.specs.Prelude.{List, ℕ};
+
+    ghost Value = { List ℕ };
+
+    ghost view = { λ s. s.bytes };
+}
+
+impl Value {
+    /// The value with these bytes, good or not.
+    pub fn new(alloc: Global, source: &[u8]) -> Result<Value, Memory>
+        ensures { IfOk result (λ r. r ≡ source.now) }
+    {
+        match Bytes::copy_from_slice(alloc, source) {
+            Ok(bytes) => Ok(Value { bytes }),
+            Err(_) => Err(Memory),
+        }
+    }
+
+    /// An equal value over the same bytes.
+    pub fn share(&self) -> Result<Value, Memory>
+        ensures { IfOk result (λ r. r ≡ self.now) }
+    {
+        match self.bytes.clone() {
+            Ok(bytes) => Ok(Value { bytes }),
+            Err(_) => Err(Memory),
+        }
+    }
+
+    /// Whether the two have the same bytes.
+    pub fn same(&self, other: &Value) -> bool
+        ensures { IsTrue result ↔ (self.now ≡ other.now) }
+    {
+        self.bytes.as_slice() == other.bytes.as_slice()
+    }
+
+    /// Its bytes.
+    pub fn as_slice(&self) -> &[u8]
+        ensures { result.now ≡ self.now }
+    {
+        self.bytes.as_slice()
+    }
+}
+
+/// A header field, good or not.
+#[derive(Drop)]
+pub struct Field {
+    pub name: Name,
+    pub value: Value,
+}
+
+impl Field {
+    /// An equal field over the same bytes.
+    pub fn share(&self) -> Result<Field, Memory>
+        ensures { IfOk result (λ r. r ≡ self.now) }
+    {
+        let name = self.name.share()?;
+        let value = self.value.share()?;
+        Ok(Field { name, value })
+    }
+
+    /// Whether the two have the same name and the same value.
+    pub fn same(&self, other: &Field) -> bool
+        ensures { IsTrue result ↔ (self.now ≡ other.now) }
+    {
+        self.name.same(&other.name) && self.value.same(&other.value)
+    }
+}
+
+/// A list of header fields, in order.
+#[derive(Drop)]
+pub struct Fields {
+    fields: Vec<Field>,
+}
+
+impl Model for Fields {
+    ghost use Rattle.std.specs.Prelude.{List};
+    ghost use Rattle.nk_base.specs.declared.field.Field.{Field};
+
+    ghost Value = { List Field };
+
+    ghost view = { λ s. s.fields.items };
+}
+
+impl Fields {
+    /// The most fields of a head, and the most trailers of a body.
+    pub const MOST: usize = 64;
+
+    /// The empty list.
+    pub fn new(alloc: Global) -> Fields
+        ensures { result ≡ [] }
+    {
+        Fields {
+            fields: Vec::new(alloc),
+        }
+    }
+
+    /// Adds a field behind the list.
+    pub fn push(&mut self, item: Field) -> Result<(), Memory>
+        ensures ok { OnOk result (self.new ≡ self.old ++ item ∷ []) }
+        ensures err { OnErr result (self.new ≡ self.old) }
+    {
+        match self.fields.push(item) {
+            Ok(()) => Ok(()),
+            Err(_) => Err(Memory),
+        }
+    }
+
+    /// The number of fields.
+    pub fn len(&self) -> usize
+        ensures { result ≡ length self.now }
+    {
+        self.fields.len()
+    }
+
+    /// The field at i, counted from 0.
+    pub fn get(&self, i: usize) -> &Field
+        requires { i < length self.now }
+        ensures { slice_get self.now i ≡ Some result.now }
+    {
+        &self.fields[i]
+    }
+
+    /// An equal list over the same bytes.
+    pub fn share(&self) -> Result<Fields, Memory>
+        ensures { IfOk result (λ r. r ≡ self.now) }
+    {
+        let mut all = Fields::new(*self.fields.allocator());
+        for field in &self.fields {
+            all.push(field.share()?)?;
+        }
+        Ok(all)
+    }
+}
+
+/// The code and the fields of a response: a code from 100 to 999, and at most 64 fields, all good.
+#[derive(Drop)]
+pub struct Head {
+    /// The response's status code.
+    pub code: u16,
+    /// Its fields, in order.
+    pub fields: Fields,
+}
+
+impl Model for Head {
+    ghost use Rattle.nk_base.specs.Heads.{HeadParts, IsGoodHead};
+
+    ghost Value = { HeadParts };
+
+    ghost view = { λ s. record { code = s.code; fields = s.fields } };
+
+    ghost invariant = { λ s. IsGoodHead (record { code = s.code; fields = s.fields }) };
+}
+
+/// Why a code and fields are no head. Fields are counted from 0.
+#[derive(Clone, Copy, Debug, Drop, PartialEq, Eq)]
+pub enum HeadError {
+    /// The code is not from 100 to 999.
+    BadCode(u16),
+    /// There are so many fields, more than 64.
+    TooMany(usize),
+    /// The name of this field is not good, and all fields before it are.
+    BadName(usize),
+    /// The value of this field is not good, its name and all fields before it are.
+    BadValue(usize),
+}
+
+impl Head {
+    /// An equal head over the same bytes.
+    pub fn share(&self) -> Result<Head, Memory>
+        ensures { IfOk result (λ r. r ≡ self.now) }
+    {
+        let fields = self.fields.share()?;
+        Ok(Head {
+            code: self.code,
+            fields,
+        })
+    }
+}
