@@ -1,5 +1,5 @@
 -- Header fields. The marks are those of HTTP's tokens; the lengths, and names in lower case only, are this project's own.
-use Rattle.std.specs.Prelude.{ℕ, Bool, true, false, not, ◌&&◌, ◌||◌, ◌==◌, nat_le, List, [], ◌∷◌, length, codes}
+use Rattle.std.specs.Prelude.{ℕ, Bool, false, not, ◌&&◌, ◌||◌, ◌==◌, nat_le, ◌-◌, List, length, slice_get, Option, Some, None, codes}
 use Rattle.std.specs.List.{list_all, list_any}
 use Rattle.nk_base.specs.declared.field.Field.{Field}
 
@@ -19,16 +19,10 @@ is_good_name name = nat_le 1 (length name) && nat_le (length name) 64 && list_al
 abbrev pub is_value_byte : ℕ → Bool
 is_value_byte b = nat_le 0x20 b && nat_le b 0x7e
 
--- the first byte is a space
-abbrev pub begins_with_space : List ℕ → Bool
-begins_with_space [] = false
-begins_with_space (b ∷ bs) = b == 0x20
-
--- the last byte is a space
-abbrev pub ends_with_space : List ℕ → Bool
-ends_with_space [] = false
-ends_with_space (b ∷ []) = b == 0x20
-ends_with_space (b ∷ c ∷ bs) = ends_with_space (c ∷ bs)
+-- whether there is a byte, and it is a space
+abbrev pub is_space : Option ℕ → Bool
+is_space None = false
+is_space (Some b) = b == 0x20
 
 -- a good value has 1 to 8,192 bytes that a value may have, the first and the last not a space
 abbrev pub is_good_value : List ℕ → Bool
@@ -36,8 +30,8 @@ is_good_value value =
     nat_le 1 (length value)
     && nat_le (length value) 8192
     && list_all is_value_byte value
-    && not (begins_with_space value)
-    && not (ends_with_space value)
+    && not (is_space (slice_get value 0))
+    && not (is_space (slice_get value (length value - 1)))
 
 -- a good field has a good name and a good value
 abbrev pub is_good_field : Field → Bool

@@ -1,10 +1,10 @@
 -- What the constructor of a head answers.
-use Rattle.std.specs.Prelude.{ℕ, ◌+◌, if◌then◌else◌, not, ◌&&◌, nat_le, List, [], ◌∷◌, length, Option, Some, None, Result, Ok, Err}
+use Rattle.std.specs.Prelude.{ℕ, ◌+◌, if◌then◌else◌, nat_le, List, [], ◌∷◌, length, Option, Some, None, Result, Ok, Err}
 use Rattle.nk_base.specs.declared.field.Field.{Field}
 use Rattle.nk_base.specs.declared.field.HeadError.{HeadError}
 use Rattle.nk_base.specs.declared.field.HeadError.TheVariants as error
 use Rattle.nk_base.specs.Fields.{is_good_name, is_good_value}
-use Rattle.nk_base.specs.Heads.{HeadParts}
+use Rattle.nk_base.specs.Heads.{HeadParts, is_status_code}
 
 -- the first field that is not good, and its name before its value; the fields are counted from i
 abbrev pub bad_field : ℕ → List Field → Option HeadError
@@ -17,7 +17,7 @@ bad_field i (f ∷ fs) =
 -- why a code and fields are no head
 abbrev pub head_error : ℕ → List Field → Option HeadError
 head_error code fields =
-    if nat_le 100 code && nat_le code 999
+    if is_status_code code
     then (if nat_le (length fields) 64 then bad_field 0 fields else Some (error.TooMany (length fields)))
     else Some (error.BadCode code)
 

@@ -1,5 +1,5 @@
 -- The head of a response. The bounds are this project's own.
-use Rattle.std.specs.Prelude.{ℕ, ◌≡◌, ◌≤◌, true, List, length}
+use Rattle.std.specs.Prelude.{ℕ, ◌≡◌, ◌≤◌, Bool, true, ◌&&◌, nat_le, List, length}
 use Rattle.nk_base.specs.declared.field.Field.{Field}
 use Rattle.nk_base.specs.Fields.{are_good_fields}
 
@@ -7,6 +7,10 @@ use Rattle.nk_base.specs.Fields.{are_good_fields}
 pub record HeadParts : Type 0 where
   pub code : ℕ
   pub fields : List Field
+
+-- whether a response may have this code: whether it has three digits
+abbrev pub is_status_code : ℕ → Bool
+is_status_code code = nat_le 100 code && nat_le code 999
 
 -- a code of three digits, and at most 64 fields, all good
 pub record IsGoodHead (head : HeadParts) : Type 0 where

@@ -2,9 +2,10 @@
 // lengths, and names in lower case only, are this project's own.
 
 ghost use Rattle.std.specs.Prelude.{◌≡◌, ◌++◌, ◌∷◌, ◌<◌, ◌↔◌, [], length, slice_get, IsTrue, IfOk, OnOk, OnErr, Some};
-ghost use Rattle.nk_base.specs.Fields.{is_name_byte, is_value_byte, is_good_name, is_good_value, is_good_field, are_good_fields};
-ghost use Rattle.nk_base.specs.Heads.{IsGoodHead};
-ghost use Rattle.nk_base.specs.HeadAnswers.{head_answer};
+ghost use Rattle.std.specs.List.{list_all};
+ghost use Rattle.nk_base.specs.Fields.{is_name_byte, is_value_byte, is_space, is_good_name, is_good_value, is_good_field, are_good_fields};
+ghost use Rattle.nk_base.specs.Heads.{is_status_code};
+ghost use Rattle.nk_base.specs.HeadAnswers.{bad_field, head_answer};
 
 use crate::status::Memory;
 use bytes::Bytes;
@@ -28,6 +29,9 @@ impl Model for Name {
 }
 
 impl Name {
+    /// The most bytes of a good name.
+    pub const MOST: usize = 64;
+
     /// The name with these bytes, good or not.
     pub fn new(alloc: Global, source: &[u8]) -> Result<Name, Memory>
         ensures { IfOk result (λ r. r ≡ source.now) }
@@ -61,6 +65,33 @@ impl Name {
     {
         self.bytes.as_slice()
     }
+
+    /// Whether the name is good.
+    pub fn is_good(&self) -> bool
+        ensures { result ≡ is_good_name self.now }
+    {
+        let bytes = self.bytes.as_slice();
+        (1..=Name::MOST).contains(&bytes.len()) && are_name_bytes(bytes)
+    }
+}
+
+/// Whether a name may have this byte: a to z, 0 to 9, or a mark of HTTP's tokens.
+fn is_name_byte(byte: u8) -> bool
+    ensures { result ≡ is_name_byte byte }
+{
+    match byte {
+        b'a'..=b'z' | b'0'..=b'9' => true,
+        b'!' | b'#' | b'$' | b'%' | b'&' | b'\'' | b'*' | b'+' | b'-' | b'.' => true,
+        b'^' | b'_' | b'`' | b'|' | b'~' => true,
+        _ => false,
+    }
+}
+
+/// Whether a name may have each of these bytes.
+fn are_name_bytes(bytes: &[u8]) -> bool
+    ensures { result ≡ list_all is_name_byte bytes.now }
+{
+    bytes.iter().all(|&byte| is_name_byte(byte))
 }
 
 /// A field's value: bytes that are shared by all that hold it. It is good where it has 1 to 8,192 bytes from 0x20 to
@@ -79,6 +110,9 @@ impl Model for Value {
 }
 
 impl Value {
+    /// The most bytes of a good value.
+    pub const MOST: usize = 8192;
+
     /// The value with these bytes, good or not.
     pub fn new(alloc: Global, source: &[u8]) -> Result<Value, Memory>
         ensures { IfOk result (λ r. r ≡ source.now) }
@@ -112,6 +146,38 @@ impl Value {
     {
         self.bytes.as_slice()
     }
+
+    /// Whether the value is good.
+    pub fn is_good(&self) -> bool
+        ensures { result ≡ is_good_value self.now }
+    {
+        let bytes = self.bytes.as_slice();
+        (1..=Value::MOST).contains(&bytes.len())
+            && are_value_bytes(bytes)
+            && !is_space(bytes.first().copied())
+            && !is_space(bytes.last().copied())
+    }
+}
+
+/// Whether a value may have this byte.
+fn is_value_byte(byte: u8) -> bool
+    ensures { result ≡ is_value_byte byte }
+{
+    (0x20..=0x7e).contains(&byte)
+}
+
+/// Whether a value may have each of these bytes.
+fn are_value_bytes(bytes: &[u8]) -> bool
+    ensures { result ≡ list_all is_value_byte bytes.now }
+{
+    bytes.iter().all(|&byte| is_value_byte(byte))
+}
+
+/// Whether a value's first or last byte is a space.
+fn is_space(end: Option<u8>) -> bool
+    ensures { result ≡ is_space end }
+{
+    end == Some(b' ')
 }
 
 /// A header field, good or not.
@@ -129,6 +195,13 @@ impl Field {
         let name = self.name.share()?;
         let value = self.value.share()?;
         Ok(Field { name, value })
+    }
+
+    /// Whether its name and its value are good.
+    pub fn is_good(&self) -> bool
+        ensures { result ≡ is_good_field self.now }
+    {
+        self.name.is_good() && self.value.is_good()
     }
 
     /// Whether the two have the same name and the same value.
@@ -203,6 +276,56 @@ impl Fields {
         }
         Ok(all)
     }
+
+    /// Whether the two have the same fields, in the same order.
+    pub fn same(&self, other: &Fields) -> bool
+        ensures { IsTrue result ↔ (self.now ≡ other.now) }
+    {
+        let length = self.fields.len();
+        if length != other.fields.len() {
+            return false;
+        }
+        for i in 0..length {
+            if !self.fields[i].same(&other.fields[i]) {
+                return false;
+            }
+        }
+        true
+    }
+
+    /// Whether all fields are good.
+    pub fn are_good(&self) -> bool
+        ensures { result ≡ are_good_fields self.now }
+    {
+        for field in &self.fields {
+            if !field.is_good() {
+                return false;
+            }
+        }
+        true
+    }
+
+    /// What is wrong with the first field that is not good.
+    fn bad_field(&self) -> Option<HeadError>
+        ensures { result ≡ bad_field 0 self.now }
+    {
+        for (i, field) in self.fields.iter().enumerate() {
+            if !field.name.is_good() {
+                return Some(HeadError::BadName(i));
+            }
+            if !field.value.is_good() {
+                return Some(HeadError::BadValue(i));
+            }
+        }
+        None
+    }
+}
+
+/// Whether a response may have this code: whether it has three digits.
+fn is_status_code(code: u16) -> bool
+    ensures { result ≡ is_status_code code }
+{
+    StatusCode::from_u16(code).is_ok()
 }
 
 /// The code and the fields of a response: a code from 100 to 999, and at most 64 fields, all good.
@@ -238,6 +361,30 @@ pub enum HeadError {
 }
 
 impl Head {
+    /// The head with this code and these fields, which are dropped where they are none. The first cause of
+    /// `HeadError` that applies is answered.
+    pub fn new(code: u16, fields: Fields) -> Result<Head, HeadError>
+        ensures { result ≡ head_answer code fields }
+    {
+        if !is_status_code(code) {
+            return Err(HeadError::BadCode(code));
+        }
+        if fields.len() > Fields::MOST {
+            return Err(HeadError::TooMany(fields.len()));
+        }
+        match fields.bad_field() {
+            None => Ok(Head { code, fields }),
+            Some(error) => Err(error),
+        }
+    }
+
+    /// Whether the two have the same code and the same fields.
+    pub fn same(&self, other: &Head) -> bool
+        ensures { IsTrue result ↔ (self.now ≡ other.now) }
+    {
+        self.code == other.code && self.fields.same(&other.fields)
+    }
+
     /// An equal head over the same bytes.
     pub fn share(&self) -> Result<Head, Memory>
         ensures { IfOk result (λ r. r ≡ self.now) }

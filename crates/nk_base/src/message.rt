@@ -138,6 +138,38 @@ impl MainMsg {
             MainMsg::Redirect3 { hop } => Ok(MainMsg::Redirect3 { hop: *hop }),
         }
     }
+
+    /// Whether the two are one message.
+    pub fn same(&self, other: &MainMsg) -> bool
+        ensures { IsTrue result ↔ (self.now ≡ other.now) }
+    {
+        match (self, other) {
+            (
+                MainMsg::Start { hop, status, head },
+                MainMsg::Start {
+                    hop: hop2,
+                    status: status2,
+                    head: head2,
+                },
+            ) => hop == hop2 && status == status2 && head.same(head2),
+            (
+                MainMsg::FailedOpen { hop, status },
+                MainMsg::FailedOpen {
+                    hop: hop2,
+                    status: status2,
+                },
+            ) => hop == hop2 && status == status2,
+            (
+                MainMsg::Redirect1 { hop, code },
+                MainMsg::Redirect1 {
+                    hop: hop2,
+                    code: code2,
+                },
+            ) => hop == hop2 && code == code2,
+            (MainMsg::Redirect3 { hop }, MainMsg::Redirect3 { hop: hop2 }) => hop == hop2,
+            _ => false,
+        }
+    }
 }
 
 impl BackMsg {
@@ -183,6 +215,50 @@ impl BackMsg {
             }
         }
     }
+
+    /// Whether the two are one message.
+    pub fn same(&self, other: &BackMsg) -> bool
+        ensures { IsTrue result ↔ (self.now ≡ other.now) }
+    {
+        match (self, other) {
+            (
+                BackMsg::Start { hop, status, head },
+                BackMsg::Start {
+                    hop: hop2,
+                    status: status2,
+                    head: head2,
+                },
+            ) => hop == hop2 && status == status2 && head.same(head2),
+            (BackMsg::StartSent { hop }, BackMsg::StartSent { hop: hop2 }) => hop == hop2,
+            (
+                BackMsg::Bytes {
+                    hop,
+                    status,
+                    offset,
+                    piece,
+                },
+                BackMsg::Bytes {
+                    hop: hop2,
+                    status: status2,
+                    offset: offset2,
+                    piece: piece2,
+                },
+            ) => hop == hop2 && status == status2 && offset == offset2 && piece.same(piece2),
+            (
+                BackMsg::Stop {
+                    hop,
+                    status,
+                    trailers,
+                },
+                BackMsg::Stop {
+                    hop: hop2,
+                    status: status2,
+                    trailers: trailers2,
+                },
+            ) => hop == hop2 && status == status2 && trailers.same(trailers2),
+            _ => false,
+        }
+    }
 }
 
 impl UpMsg {
@@ -191,6 +267,13 @@ impl UpMsg {
         ensures { IfOk result (λ r. r ≡ self.now) }
     {
         Ok(*self)
+    }
+
+    /// Whether the two are one message.
+    pub fn same(&self, other: &UpMsg) -> bool
+        ensures { IsTrue result ↔ (self.now ≡ other.now) }
+    {
+        self == other
     }
 }
 
@@ -218,6 +301,36 @@ impl Entry {
                     trailers,
                 })
             }
+        }
+    }
+
+    /// Whether the two are one entry.
+    pub fn same(&self, other: &Entry) -> bool
+        ensures { IsTrue result ↔ (self.now ≡ other.now) }
+    {
+        match (self, other) {
+            (
+                Entry::Start { code, status },
+                Entry::Start {
+                    code: code2,
+                    status: status2,
+                },
+            ) => code == code2 && status == status2,
+            (
+                Entry::Bytes { offset, piece },
+                Entry::Bytes {
+                    offset: offset2,
+                    piece: piece2,
+                },
+            ) => offset == offset2 && piece.same(piece2),
+            (
+                Entry::Stop { status, trailers },
+                Entry::Stop {
+                    status: status2,
+                    trailers: trailers2,
+                },
+            ) => status == status2 && trailers.same(trailers2),
+            _ => false,
         }
     }
 }
