@@ -1,1 +1,2 @@
 mod HeadFields
+pub mod Targets

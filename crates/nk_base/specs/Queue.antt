@@ -1,6 +1,6 @@
 -- The queue machine: the events of a channel that wait, and on which target they run next. After Firefox's
 -- ChannelEventQueue in outline; the exact rules are this project's own.
-use Rattle.std.specs.Prelude.{ℕ, suc, ◌≡◌, ◌≤◌, ◌+◌, ◌-◌, ◌<◌, Bool, true, false, not, ◌&&◌, ◌||◌, if◌then◌else◌, nat_lt, nat_le, ◌==◌, List, [], ◌∷◌, ◌++◌, length, replicate, slice_index, slice_set, Option, Some, None, is_some}
+use Rattle.std.specs.Prelude.{ℕ, suc, ◌≡◌, ◌≤◌, ◌+◌, ◌-◌, Bool, true, false, not, ◌&&◌, ◌||◌, if◌then◌else◌, nat_lt, nat_le, ◌==◌, List, [], ◌∷◌, ◌++◌, length, replicate, slice_index, slice_set, Option, Some, None, is_some}
 use Rattle.nk_base.specs.declared.status.Target.{Target}
 use Rattle.nk_base.specs.declared.status.Target.TheVariants as target
 use Rattle.nk_base.specs.declared.queue.Class.{Class}

@@ -18,3 +18,6 @@ pub use out::{Out, OutList, Ranged};
 pub use piece::{ByteList, Piece, PieceError};
 pub use queue::{Class, Classed};
 pub use status::{Memory, RetargetError, Status, Target};
+
+#[cfg(test)]
+mod tests;
