@@ -1,3 +1,4 @@
+-- Where the events of a child run.
 use Rattle.nk_base.specs.declared.status.Target.TheVariants as target
 use Rattle.nk_base.specs.declared.queue.Class.{Class}
 use Rattle.nk_base.specs.declared.queue.Class.TheVariants as kind

@@ -1,9 +1,8 @@
-use Rattle.std.specs.Prelude.{Bool, if◌then◌else◌, nat_le, Option, Some, None}
+-- The first failure of a channel, which all later ones leave in place.
+use Rattle.std.specs.Prelude.{if◌then◌else◌, Option, Some, None}
 use Rattle.nk_base.specs.declared.status.Status.{Status}
-
--- whether a status is a failure: its top bit is set (after Firefox's NS_FAILED)
-abbrev pub is_failure : Status → Bool
-is_failure s = nat_le 2147483648 s.0
+use Rattle.nk_base.specs.Status.{ok}
+pub use Rattle.nk_base.specs.Status.{is_failure}
 
 -- the failure that a status is, if it is one
 abbrev pub failure : Status → Option Status
@@ -21,5 +20,5 @@ merged kept s = or_else kept (failure s)
 
 -- the failure that is kept, or 0
 abbrev pub kept_status : Option Status → Status
-kept_status None = record { 0 = 0 }
+kept_status None = ok
 kept_status (Some s) = s

@@ -1,6 +1,6 @@
 // The journals of the two sides: what each step took, did and sent, in order.
 
-ghost use Rattle.std.specs.Prelude.{◌≡◌, ◌++◌, ◌∷◌, ◌<◌, [], length, slice_get, Some, OnOk, OnErr};
+ghost use Rattle.std.specs.Prelude.{◌≡◌, ◌++◌, ◌∷◌, ◌<◌, ◌↔◌, [], length, slice_get, Some, IsTrue, IfOk, OnOk, OnErr};
 
 use nk_base::{BackMsg, Grow, MainMsg, Memory, RetargetError, Status, Target, UpMsg};
 use std::alloc::Global;
@@ -15,6 +15,37 @@ pub enum ParentEntry {
     SentMain(MainMsg),
     /// A message was sent to the parent's background half.
     SentBack(BackMsg),
+}
+
+impl ParentEntry {
+    /// An equal entry, over the same bytes.
+    pub fn share(&self) -> Result<ParentEntry, Memory>
+        ensures { IfOk result (λ r. r ≡ self.now) }
+    {
+        match self {
+            ParentEntry::Took(message) => Ok(ParentEntry::Took(*message)),
+            ParentEntry::SentMain(message) => {
+                let message = message.share()?;
+                Ok(ParentEntry::SentMain(message))
+            }
+            ParentEntry::SentBack(message) => {
+                let message = message.share()?;
+                Ok(ParentEntry::SentBack(message))
+            }
+        }
+    }
+
+    /// Whether the two are equal.
+    pub fn same(&self, other: &ParentEntry) -> bool
+        ensures { IsTrue result ↔ (self.now ≡ other.now) }
+    {
+        match (self, other) {
+            (ParentEntry::Took(a), ParentEntry::Took(b)) => a.same(b),
+            (ParentEntry::SentMain(a), ParentEntry::SentMain(b)) => a.same(b),
+            (ParentEntry::SentBack(a), ParentEntry::SentBack(b)) => a.same(b),
+            _ => false,
+        }
+    }
 }
 
 /// An entry of a child's journal. This project's own.
@@ -101,6 +132,190 @@ pub enum ChildEntry {
     Finish(Target),
     /// A cancel with this status was put in front of the queue.
     Prepend(Status),
+}
+
+impl ChildEntry {
+    /// An equal entry, over the same bytes.
+    pub fn share(&self) -> Result<ChildEntry, Memory>
+        ensures { IfOk result (λ r. r ≡ self.now) }
+    {
+        match self {
+            ChildEntry::Open => Ok(ChildEntry::Open),
+            ChildEntry::Suspend => Ok(ChildEntry::Suspend),
+            ChildEntry::Resume => Ok(ChildEntry::Resume),
+            ChildEntry::Cancel(status) => Ok(ChildEntry::Cancel(*status)),
+            ChildEntry::Break(status) => Ok(ChildEntry::Break(*status)),
+            ChildEntry::Retarget(worker) => Ok(ChildEntry::Retarget(*worker)),
+            ChildEntry::NoRetarget(why) => Ok(ChildEntry::NoRetarget(*why)),
+            ChildEntry::NoEffect => Ok(ChildEntry::NoEffect),
+            ChildEntry::Verdict { hop, status } => Ok(ChildEntry::Verdict {
+                hop: *hop,
+                status: *status,
+            }),
+            ChildEntry::TookMain(message) => {
+                let message = message.share()?;
+                Ok(ChildEntry::TookMain(message))
+            }
+            ChildEntry::TookBack(message) => {
+                let message = message.share()?;
+                Ok(ChildEntry::TookBack(message))
+            }
+            ChildEntry::Release(count) => Ok(ChildEntry::Release(*count)),
+            ChildEntry::RunStart {
+                target,
+                code,
+                status,
+            } => Ok(ChildEntry::RunStart {
+                target: *target,
+                code: *code,
+                status: *status,
+            }),
+            ChildEntry::RunBytes {
+                target,
+                offset,
+                length,
+            } => Ok(ChildEntry::RunBytes {
+                target: *target,
+                offset: *offset,
+                length: *length,
+            }),
+            ChildEntry::RunDrop {
+                target,
+                offset,
+                status,
+            } => Ok(ChildEntry::RunDrop {
+                target: *target,
+                offset: *offset,
+                status: *status,
+            }),
+            ChildEntry::RunStop { target, status } => Ok(ChildEntry::RunStop {
+                target: *target,
+                status: *status,
+            }),
+            ChildEntry::RunRedirect1 { target, hop } => Ok(ChildEntry::RunRedirect1 {
+                target: *target,
+                hop: *hop,
+            }),
+            ChildEntry::RunRedirect3 { target, hop } => Ok(ChildEntry::RunRedirect3 {
+                target: *target,
+                hop: *hop,
+            }),
+            ChildEntry::RunCancel { target, status } => Ok(ChildEntry::RunCancel {
+                target: *target,
+                status: *status,
+            }),
+            ChildEntry::HandOver { from, to } => Ok(ChildEntry::HandOver {
+                from: *from,
+                to: *to,
+            }),
+            ChildEntry::Ended(target) => Ok(ChildEntry::Ended(*target)),
+            ChildEntry::Complete(target) => Ok(ChildEntry::Complete(*target)),
+            ChildEntry::Finish(target) => Ok(ChildEntry::Finish(*target)),
+            ChildEntry::Prepend(status) => Ok(ChildEntry::Prepend(*status)),
+        }
+    }
+
+    /// Whether the two are equal.
+    pub fn same(&self, other: &ChildEntry) -> bool
+        ensures { IsTrue result ↔ (self.now ≡ other.now) }
+    {
+        match (self, other) {
+            (ChildEntry::Open, ChildEntry::Open) => true,
+            (ChildEntry::Suspend, ChildEntry::Suspend) => true,
+            (ChildEntry::Resume, ChildEntry::Resume) => true,
+            (ChildEntry::Cancel(a), ChildEntry::Cancel(b)) => a == b,
+            (ChildEntry::Break(a), ChildEntry::Break(b)) => a == b,
+            (ChildEntry::Retarget(a), ChildEntry::Retarget(b)) => a == b,
+            (ChildEntry::NoRetarget(a), ChildEntry::NoRetarget(b)) => a == b,
+            (ChildEntry::NoEffect, ChildEntry::NoEffect) => true,
+            (
+                ChildEntry::Verdict { hop, status },
+                ChildEntry::Verdict {
+                    hop: hop2,
+                    status: status2,
+                },
+            ) => hop == hop2 && status == status2,
+            (ChildEntry::TookMain(a), ChildEntry::TookMain(b)) => a.same(b),
+            (ChildEntry::TookBack(a), ChildEntry::TookBack(b)) => a.same(b),
+            (ChildEntry::Release(a), ChildEntry::Release(b)) => a == b,
+            (
+                ChildEntry::RunStart {
+                    target,
+                    code,
+                    status,
+                },
+                ChildEntry::RunStart {
+                    target: target2,
+                    code: code2,
+                    status: status2,
+                },
+            ) => target == target2 && code == code2 && status == status2,
+            (
+                ChildEntry::RunBytes {
+                    target,
+                    offset,
+                    length,
+                },
+                ChildEntry::RunBytes {
+                    target: target2,
+                    offset: offset2,
+                    length: length2,
+                },
+            ) => target == target2 && offset == offset2 && length == length2,
+            (
+                ChildEntry::RunDrop {
+                    target,
+                    offset,
+                    status,
+                },
+                ChildEntry::RunDrop {
+                    target: target2,
+                    offset: offset2,
+                    status: status2,
+                },
+            ) => target == target2 && offset == offset2 && status == status2,
+            (
+                ChildEntry::RunStop { target, status },
+                ChildEntry::RunStop {
+                    target: target2,
+                    status: status2,
+                },
+            ) => target == target2 && status == status2,
+            (
+                ChildEntry::RunRedirect1 { target, hop },
+                ChildEntry::RunRedirect1 {
+                    target: target2,
+                    hop: hop2,
+                },
+            ) => target == target2 && hop == hop2,
+            (
+                ChildEntry::RunRedirect3 { target, hop },
+                ChildEntry::RunRedirect3 {
+                    target: target2,
+                    hop: hop2,
+                },
+            ) => target == target2 && hop == hop2,
+            (
+                ChildEntry::RunCancel { target, status },
+                ChildEntry::RunCancel {
+                    target: target2,
+                    status: status2,
+                },
+            ) => target == target2 && status == status2,
+            (
+                ChildEntry::HandOver { from, to },
+                ChildEntry::HandOver {
+                    from: from2,
+                    to: to2,
+                },
+            ) => from == from2 && to == to2,
+            (ChildEntry::Ended(a), ChildEntry::Ended(b)) => a == b,
+            (ChildEntry::Complete(a), ChildEntry::Complete(b)) => a == b,
+            (ChildEntry::Finish(a), ChildEntry::Finish(b)) => a == b,
+            (ChildEntry::Prepend(a), ChildEntry::Prepend(b)) => a == b,
+            _ => false,
+        }
+    }
 }
 
 /// A parent's journal, in order. This project's own.

@@ -1,6 +1,7 @@
 // Plans, journals and ends of a channel, and the laws over them.
 #![tactic(auto)]
 
+mod accept;
 mod ends;
 mod event;
 mod journal;

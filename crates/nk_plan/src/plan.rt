@@ -1,6 +1,6 @@
 // The plan of a channel: what its load will meet, what its listener does, and what the page calls.
 
-ghost use Rattle.std.specs.Prelude.{◌≡◌, ◌++◌, ◌∷◌, ◌<◌, [], length, slice_get, Some, OnOk, OnErr};
+ghost use Rattle.std.specs.Prelude.{◌≡◌, ◌++◌, ◌∷◌, ◌<◌, ◌↔◌, [], length, slice_get, Some, IsTrue, IfOk, OnOk, OnErr};
 
 use nk_base::{Fields, Head, Memory, Piece, Status};
 use std::alloc::Global;
@@ -145,6 +145,33 @@ impl Pieces {
     {
         self.pieces.as_slice()
     }
+
+    /// An equal list, over the same bytes.
+    pub fn share(&self) -> Result<Pieces, Memory>
+        ensures { IfOk result (λ r. r ≡ self.now) }
+    {
+        let mut all = Pieces::new(*self.pieces.allocator());
+        for piece in &self.pieces {
+            all.push(piece.share()?)?;
+        }
+        Ok(all)
+    }
+
+    /// Whether the two are equal.
+    pub fn same(&self, other: &Pieces) -> bool
+        ensures { IsTrue result ↔ (self.now ≡ other.now) }
+    {
+        let length = self.pieces.len();
+        if length != other.pieces.len() {
+            return false;
+        }
+        for i in 0..length {
+            if !self.pieces[i].same(&other.pieces[i]) {
+                return false;
+            }
+        }
+        true
+    }
 }
 
 /// One hop of a load: what the server answers to one request. This project's own.
@@ -170,6 +197,73 @@ pub enum Hop {
         /// The fields behind the body, at most 64, and none where the finish is a failure.
         trailers: Fields,
     },
+}
+
+impl Hop {
+    /// An equal hop, over the same bytes.
+    pub fn share(&self) -> Result<Hop, Memory>
+        ensures { IfOk result (λ r. r ≡ self.now) }
+    {
+        match self {
+            Hop::Fail(status) => Ok(Hop::Fail(*status)),
+            Hop::Redirect { code, verdict } => Ok(Hop::Redirect {
+                code: *code,
+                verdict: *verdict,
+            }),
+            Hop::Response {
+                head,
+                pieces,
+                finish,
+                trailers,
+            } => {
+                let head = head.share()?;
+                let pieces = pieces.share()?;
+                let trailers = trailers.share()?;
+                Ok(Hop::Response {
+                    head,
+                    pieces,
+                    finish: *finish,
+                    trailers,
+                })
+            }
+        }
+    }
+
+    /// Whether the two are equal.
+    pub fn same(&self, other: &Hop) -> bool
+        ensures { IsTrue result ↔ (self.now ≡ other.now) }
+    {
+        match (self, other) {
+            (Hop::Fail(status), Hop::Fail(status2)) => status == status2,
+            (
+                Hop::Redirect { code, verdict },
+                Hop::Redirect {
+                    code: code2,
+                    verdict: verdict2,
+                },
+            ) => code == code2 && verdict == verdict2,
+            (
+                Hop::Response {
+                    head,
+                    pieces,
+                    finish,
+                    trailers,
+                },
+                Hop::Response {
+                    head: head2,
+                    pieces: pieces2,
+                    finish: finish2,
+                    trailers: trailers2,
+                },
+            ) => {
+                head.same(head2)
+                    && pieces.same(pieces2)
+                    && finish == finish2
+                    && trailers.same(trailers2)
+            }
+            _ => false,
+        }
+    }
 }
 
 /// The hops of a load, in order. This project's own.
@@ -228,6 +322,33 @@ impl Hops {
         ensures { result.now ≡ self.now }
     {
         self.hops.as_slice()
+    }
+
+    /// An equal list, over the same bytes.
+    pub fn share(&self) -> Result<Hops, Memory>
+        ensures { IfOk result (λ r. r ≡ self.now) }
+    {
+        let mut all = Hops::new(*self.hops.allocator());
+        for hop in &self.hops {
+            all.push(hop.share()?)?;
+        }
+        Ok(all)
+    }
+
+    /// Whether the two are equal.
+    pub fn same(&self, other: &Hops) -> bool
+        ensures { IsTrue result ↔ (self.now ≡ other.now) }
+    {
+        let length = self.hops.len();
+        if length != other.hops.len() {
+            return false;
+        }
+        for i in 0..length {
+            if !self.hops[i].same(&other.hops[i]) {
+                return false;
+            }
+        }
+        true
     }
 }
 
@@ -288,6 +409,32 @@ impl Reactions {
     {
         self.reactions.as_slice()
     }
+
+    /// An equal list.
+    pub fn share(&self) -> Result<Reactions, Memory>
+        ensures { IfOk result (λ r. r ≡ self.now) }
+    {
+        match self.reactions.clone() {
+            Ok(reactions) => Ok(Reactions { reactions }),
+            Err(_) => Err(Memory),
+        }
+    }
+
+    /// Whether the two are equal.
+    pub fn same(&self, other: &Reactions) -> bool
+        ensures { IsTrue result ↔ (self.now ≡ other.now) }
+    {
+        let length = self.reactions.len();
+        if length != other.reactions.len() {
+            return false;
+        }
+        for i in 0..length {
+            if self.reactions[i] != other.reactions[i] {
+                return false;
+            }
+        }
+        true
+    }
 }
 
 /// The calls of the page after the opening, in the order in which they come. This project's own.
@@ -347,6 +494,32 @@ impl Controls {
     {
         self.controls.as_slice()
     }
+
+    /// An equal list.
+    pub fn share(&self) -> Result<Controls, Memory>
+        ensures { IfOk result (λ r. r ≡ self.now) }
+    {
+        match self.controls.clone() {
+            Ok(controls) => Ok(Controls { controls }),
+            Err(_) => Err(Memory),
+        }
+    }
+
+    /// Whether the two are equal.
+    pub fn same(&self, other: &Controls) -> bool
+        ensures { IsTrue result ↔ (self.now ≡ other.now) }
+    {
+        let length = self.controls.len();
+        if length != other.controls.len() {
+            return false;
+        }
+        for i in 0..length {
+            if self.controls[i] != other.controls[i] {
+                return false;
+            }
+        }
+        true
+    }
 }
 
 /// The plan of a channel. This project's own.
@@ -370,6 +543,41 @@ pub struct ChannelPlan {
     pub closed: bool,
     /// The lane on which the start travels.
     pub start: StartLane,
+}
+
+impl ChannelPlan {
+    /// An equal plan, over the same bytes.
+    pub fn share(&self) -> Result<ChannelPlan, Memory>
+        ensures { IfOk result (λ r. r ≡ self.now) }
+    {
+        let hops = self.hops.share()?;
+        let reactions = self.reactions.share()?;
+        let controls = self.controls.share()?;
+        Ok(ChannelPlan {
+            hops,
+            listener: self.listener,
+            retargetable: self.retargetable,
+            reactions,
+            controls,
+            window: self.window,
+            closed: self.closed,
+            start: self.start,
+        })
+    }
+
+    /// Whether the two are equal. It takes no memory.
+    pub fn same(&self, other: &ChannelPlan) -> bool
+        ensures { IsTrue result ↔ (self.now ≡ other.now) }
+    {
+        self.hops.same(&other.hops)
+            && self.listener == other.listener
+            && self.retargetable == other.retargetable
+            && self.reactions.same(&other.reactions)
+            && self.controls.same(&other.controls)
+            && self.window == other.window
+            && self.closed == other.closed
+            && self.start == other.start
+    }
 }
 
 /// The plans of a run's channels, in their order. This project's own.
