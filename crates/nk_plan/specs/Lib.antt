@@ -1,0 +1,4 @@
+pub mod Accepted
+pub mod Event
+pub mod Failure
+pub mod Rows
