@@ -1,0 +1,6 @@
+pub mod Faults
+pub mod Left
+pub mod Got
+pub mod Given
+pub mod Memory
+pub mod Standard

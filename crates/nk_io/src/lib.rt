@@ -1,0 +1,21 @@
+//! Bytes in and out: a source that gives bytes in pieces, a sink that takes them, and the two calls
+//! that read all of one and write all to the other. Each fault is counted, so that a contract can
+//! say that an answer came of a fault, or that there was none.
+#![tactic(auto)]
+
+mod calls;
+mod memory_sink;
+mod memory_source;
+mod sink;
+mod source;
+mod standard;
+#[cfg(test)]
+mod tests;
+mod whole;
+
+pub use memory_sink::{MemSink, SureSink};
+pub use memory_source::{MemSource, SureSource};
+pub use sink::{Put, Sink};
+pub use source::{Source, Take};
+pub use standard::{StdSink, StdSource};
+pub use whole::{ReadError, WriteFault, read_all, write_all};
