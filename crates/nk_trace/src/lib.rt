@@ -9,6 +9,8 @@ mod channel;
 mod journal;
 mod message;
 mod printer;
+#[cfg(test)]
+mod tests;
 
 use nk_base::Memory;
 use nk_plan::{Ending, Ends};
