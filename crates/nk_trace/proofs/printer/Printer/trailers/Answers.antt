@@ -1,0 +1,8 @@
+-- One more trailer is printed.
+use Rattle.std.proofs.Common.{arith}
+use Rattle.std.proofs.lemmas.Grind.{common_steps}
+use Rattle.std.proofs.lemmas.Option.{gets}
+use Rattle.nk_trace.proofs.printer.Printer.trailers.Goals as goal
+
+pub loop-i-preserved : goal.loop-i-preserved
+loop-i-preserved c = grind (arith, common_steps, gets)

@@ -1,0 +1,137 @@
+// The writer of the report: one buffer of bytes, and how numbers, statuses and bytes stand in it.
+
+ghost use Rattle.std.specs.Prelude.{◌≡◌, ◌++◌, ◌∷◌, [], decimal, OnOk};
+ghost use Rattle.nk_trace.specs.Words.{line, code_text, hex_byte as digits_of, hex_text, status_text};
+
+use itoa::Buffer;
+use nk_base::{Memory, Status};
+use std::alloc::Global;
+use std::marker::Model;
+
+const HEX_DIGITS: &[u8; 16] = b"0123456789abcdef";
+
+/// The two hexadecimal digits of a byte.
+#[tactic(auto, unfolding(crate::specs::Words::hex_digit))]
+fn hex_byte(byte: u8) -> [u8; 2]
+    ensures { result ≡ digits_of byte }
+{
+    [
+        HEX_DIGITS[(byte / 16) as usize],
+        HEX_DIGITS[(byte % 16) as usize],
+    ]
+}
+
+/// A text as far as it is printed. After want of memory the text may be cut anywhere. This
+/// project's own.
+#[derive(Drop)]
+pub struct Printer {
+    bytes: Vec<u8>,
+}
+
+impl Model for Printer {
+    ghost use Rattle.std.specs.Prelude.{List, ℕ};
+
+    ghost Value = { List ℕ };
+
+    ghost view = { λ s. s.bytes.items };
+}
+
+impl Printer {
+    /// A text of no bytes.
+    pub fn new(alloc: Global) -> Printer
+        ensures { result ≡ [] }
+    {
+        Printer {
+            bytes: Vec::new(alloc),
+        }
+    }
+
+    /// The text's bytes.
+    pub fn into_bytes(self) -> Vec<u8>
+        ensures { result.items ≡ self }
+    {
+        self.bytes
+    }
+
+    /// Prints these bytes as they are.
+    pub fn bytes(&mut self, bytes: &[u8]) -> Result<(), Memory>
+        ensures { OnOk result (self.new ≡ self.old ++ bytes.now) }
+    {
+        match self.bytes.extend_from_slice(bytes) {
+            Ok(()) => Ok(()),
+            Err(_) => Err(Memory),
+        }
+    }
+
+    /// Prints these words.
+    pub fn word(&mut self, word: &str) -> Result<(), Memory>
+        ensures { OnOk result (self.new ≡ self.old ++ word.now) }
+    {
+        self.bytes(word.as_bytes())
+    }
+
+    /// Prints a number in decimal.
+    pub fn decimal(&mut self, number: u64) -> Result<(), Memory>
+        ensures { OnOk result (self.new ≡ self.old ++ decimal number) }
+    {
+        let mut buffer = Buffer::new();
+        self.word(buffer.format(number))
+    }
+
+    /// Prints a code.
+    #[tactic(auto, unfolding(crate::specs::Words::code_text))]
+    pub fn code(&mut self, code: u16) -> Result<(), Memory>
+        ensures { OnOk result (self.new ≡ self.old ++ code_text code) }
+    {
+        let mut buffer = Buffer::new();
+        let digits = buffer.format(code);
+        let zeros = 3usize.saturating_sub(digits.len());
+        for _ in 0..zeros {
+            self.word("0")?;
+        }
+        self.word(digits)
+    }
+
+    /// Prints bytes, as two hexadecimal digits each.
+    #[tactic(auto, using(std::proofs::lemmas::List::flat_map_more, std::proofs::lemmas::List::take_more))]
+    pub fn hex(&mut self, bytes: &[u8]) -> Result<(), Memory>
+        ensures { OnOk result (self.new ≡ self.old ++ hex_text bytes.now) }
+    {
+        for byte in bytes {
+            self.bytes(&hex_byte(*byte))?;
+        }
+        Ok(())
+    }
+
+    /// Prints a kind, as two hexadecimal digits.
+    pub fn kind(&mut self, kind: u8) -> Result<(), Memory>
+        ensures { OnOk result (self.new ≡ self.old ++ digits_of kind) }
+    {
+        self.bytes(&hex_byte(kind))
+    }
+
+    /// Prints a status, as eight hexadecimal digits.
+    #[tactic(auto, unfolding(crate::specs::Words::status_text))]
+    pub fn status(&mut self, status: Status) -> Result<(), Memory>
+        ensures { OnOk result (self.new ≡ self.old ++ status_text status) }
+    {
+        self.hex(&status.0.to_be_bytes())
+    }
+
+    /// Prints a line of a label and a status.
+    pub(crate) fn status_line(&mut self, label: &str, status: Status) -> Result<(), Memory>
+        ensures { OnOk result (self.new ≡ self.old ++ line (label.now ∷ status_text status ∷ [])) }
+    {
+        self.word(label)?;
+        self.word(" ")?;
+        self.status(status)?;
+        self.line_feed()
+    }
+
+    /// Ends a line.
+    pub fn line_feed(&mut self) -> Result<(), Memory>
+        ensures { OnOk result (self.new ≡ self.old ++ 10 ∷ []) }
+    {
+        self.word("\n")
+    }
+}
