@@ -1,0 +1,26 @@
+// Decimal numbers among the program's words.
+
+ghost use Rattle.std.specs.Prelude.{◌≡◌, ◌^◌, ◌<◌, ◌↔◌, ℕ, Some, IsTrue};
+ghost use Rattle.std.specs.Fmt.{decimal};
+ghost use Rattle.nk_words.specs.Decimal.{HasPlainStart};
+
+// The number that the text spells, without a sign or a leading zero; none elsewhere.
+pub(crate) fn read_decimal(text: &str) -> Option<u32>
+    ensures { (n : ℕ) → n < 2 ^ 32 → (result ≡ Some n) ↔ (text.now ≡ decimal n) }
+{
+    if has_plain_start(text.as_bytes()) {
+        text.parse().ok()
+    } else {
+        None
+    }
+}
+
+// The text has no sign and no leading zero.
+fn has_plain_start(text: &[u8]) -> bool
+    ensures { IsTrue result ↔ HasPlainStart text.now }
+{
+    match text {
+        [b'0'] | [b'1'..=b'9', ..] => true,
+        _ => false,
+    }
+}

@@ -1,0 +1,7 @@
+// The words that the program is called with, and the commands that they mean.
+#![tactic(auto)]
+
+mod command;
+mod decimal;
+
+pub use command::{Command, USAGE, Usage, read_words};
