@@ -19,8 +19,22 @@ use Rattle.nk_plan.specs.declared.plan.Reaction.TheVariants as reaction
 use Rattle.nk_plan.specs.declared.plan.Act.{Act}
 use Rattle.nk_plan.specs.declared.plan.Act.TheVariants as act
 use Rattle.nk_plan.specs.declared.plan.Control.{Control}
+use Rattle.nk_plan.specs.declared.plan.StartLane.{StartLane}
 use Rattle.nk_plan.specs.declared.plan.PlanError.{PlanError}
 use Rattle.nk_plan.specs.declared.plan.PlanError.TheVariants as error
+
+-- the plan with these parts
+abbrev pub plan_of : List Hop → ListenerKind → Bool → List Reaction → List Control → ℕ → Bool → StartLane → ChannelPlan
+plan_of hops listener retargetable reactions controls window closed start = record {
+  hops = hops;
+  listener = listener;
+  retargetable = retargetable;
+  reactions = reactions;
+  controls = controls;
+  window = window;
+  closed = closed;
+  start = start;
+}
 
 -- workers are numbered 1 to 16
 abbrev pub IsWorker : ℕ → Type 0

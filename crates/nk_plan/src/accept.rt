@@ -2,7 +2,7 @@
 
 ghost use Rattle.std.specs.Prelude.{◌≡◌, ◌<◌, ◌≤◌, ◌↔◌, length, sum_by, All, IsTrue, IsOk, IsNone, IfSome, OnOk, IfOk, IfErr, MatchOption};
 ghost use Rattle.nk_base.specs.Ranges.{IsRedirectCode};
-ghost use Rattle.nk_plan.specs.Accepted.{IsWorker, IsFailure, IsRedirect, IsGoodVerdict, IsGoodFinish, IsGoodHop, body_of, body_size, IsGoodListener, IsGoodReaction, IsGoodAct, IsGoodControl, IsFirstWithout, IsFirstBeyond, Accepted, IsFirstRefusal, IsPlanAnswer};
+ghost use Rattle.nk_plan.specs.Accepted.{plan_of, IsWorker, IsRedirect, IsGoodVerdict, IsGoodFinish, IsGoodHop, body_of, body_size, IsGoodListener, IsGoodReaction, IsGoodAct, IsGoodControl, IsFirstWithout, IsFirstBeyond, Accepted, IsFirstRefusal, IsPlanAnswer};
 ghost use Rattle.nk_plan.specs.Rows.{PassesRows, IsRefusedFrom};
 
 use crate::plan::{
@@ -49,8 +49,8 @@ impl ChannelPlan {
         closed: bool,
         start: StartLane,
     ) -> Result<ChannelPlan, PlanError>
-        ensures answer { IsPlanAnswer (record { hops = hops; listener = listener; retargetable = retargetable; reactions = reactions; controls = controls; window = window; closed = closed; start = start }) result }
-        ensures accepted { IsOk result ↔ Accepted (record { hops = hops; listener = listener; retargetable = retargetable; reactions = reactions; controls = controls; window = window; closed = closed; start = start }) }
+        ensures answer { IsPlanAnswer (plan_of hops listener retargetable reactions controls window closed start) result }
+        ensures accepted { IsOk result ↔ Accepted (plan_of hops listener retargetable reactions controls window closed start) }
     {
         let plan = ChannelPlan {
             hops,

@@ -139,80 +139,56 @@ impl ChildEntry {
     pub fn share(&self) -> Result<ChildEntry, Memory>
         ensures { IfOk result (λ r. r ≡ self.now) }
     {
-        match self {
-            ChildEntry::Open => Ok(ChildEntry::Open),
-            ChildEntry::Suspend => Ok(ChildEntry::Suspend),
-            ChildEntry::Resume => Ok(ChildEntry::Resume),
-            ChildEntry::Cancel(status) => Ok(ChildEntry::Cancel(*status)),
-            ChildEntry::Break(status) => Ok(ChildEntry::Break(*status)),
-            ChildEntry::Retarget(worker) => Ok(ChildEntry::Retarget(*worker)),
-            ChildEntry::NoRetarget(why) => Ok(ChildEntry::NoRetarget(*why)),
-            ChildEntry::NoEffect => Ok(ChildEntry::NoEffect),
-            ChildEntry::Verdict { hop, status } => Ok(ChildEntry::Verdict {
-                hop: *hop,
-                status: *status,
-            }),
-            ChildEntry::TookMain(message) => {
-                let message = message.share()?;
-                Ok(ChildEntry::TookMain(message))
-            }
-            ChildEntry::TookBack(message) => {
-                let message = message.share()?;
-                Ok(ChildEntry::TookBack(message))
-            }
-            ChildEntry::Release(count) => Ok(ChildEntry::Release(*count)),
+        Ok(match *self {
+            ChildEntry::Open => ChildEntry::Open,
+            ChildEntry::Suspend => ChildEntry::Suspend,
+            ChildEntry::Resume => ChildEntry::Resume,
+            ChildEntry::Cancel(status) => ChildEntry::Cancel(status),
+            ChildEntry::Break(status) => ChildEntry::Break(status),
+            ChildEntry::Retarget(worker) => ChildEntry::Retarget(worker),
+            ChildEntry::NoRetarget(why) => ChildEntry::NoRetarget(why),
+            ChildEntry::NoEffect => ChildEntry::NoEffect,
+            ChildEntry::Verdict { hop, status } => ChildEntry::Verdict { hop, status },
+            ChildEntry::TookMain(ref message) => ChildEntry::TookMain(message.share()?),
+            ChildEntry::TookBack(ref message) => ChildEntry::TookBack(message.share()?),
+            ChildEntry::Release(count) => ChildEntry::Release(count),
             ChildEntry::RunStart {
                 target,
                 code,
                 status,
-            } => Ok(ChildEntry::RunStart {
-                target: *target,
-                code: *code,
-                status: *status,
-            }),
+            } => ChildEntry::RunStart {
+                target,
+                code,
+                status,
+            },
             ChildEntry::RunBytes {
                 target,
                 offset,
                 length,
-            } => Ok(ChildEntry::RunBytes {
-                target: *target,
-                offset: *offset,
-                length: *length,
-            }),
+            } => ChildEntry::RunBytes {
+                target,
+                offset,
+                length,
+            },
             ChildEntry::RunDrop {
                 target,
                 offset,
                 status,
-            } => Ok(ChildEntry::RunDrop {
-                target: *target,
-                offset: *offset,
-                status: *status,
-            }),
-            ChildEntry::RunStop { target, status } => Ok(ChildEntry::RunStop {
-                target: *target,
-                status: *status,
-            }),
-            ChildEntry::RunRedirect1 { target, hop } => Ok(ChildEntry::RunRedirect1 {
-                target: *target,
-                hop: *hop,
-            }),
-            ChildEntry::RunRedirect3 { target, hop } => Ok(ChildEntry::RunRedirect3 {
-                target: *target,
-                hop: *hop,
-            }),
-            ChildEntry::RunCancel { target, status } => Ok(ChildEntry::RunCancel {
-                target: *target,
-                status: *status,
-            }),
-            ChildEntry::HandOver { from, to } => Ok(ChildEntry::HandOver {
-                from: *from,
-                to: *to,
-            }),
-            ChildEntry::Ended(target) => Ok(ChildEntry::Ended(*target)),
-            ChildEntry::Complete(target) => Ok(ChildEntry::Complete(*target)),
-            ChildEntry::Finish(target) => Ok(ChildEntry::Finish(*target)),
-            ChildEntry::Prepend(status) => Ok(ChildEntry::Prepend(*status)),
-        }
+            } => ChildEntry::RunDrop {
+                target,
+                offset,
+                status,
+            },
+            ChildEntry::RunStop { target, status } => ChildEntry::RunStop { target, status },
+            ChildEntry::RunRedirect1 { target, hop } => ChildEntry::RunRedirect1 { target, hop },
+            ChildEntry::RunRedirect3 { target, hop } => ChildEntry::RunRedirect3 { target, hop },
+            ChildEntry::RunCancel { target, status } => ChildEntry::RunCancel { target, status },
+            ChildEntry::HandOver { from, to } => ChildEntry::HandOver { from, to },
+            ChildEntry::Ended(target) => ChildEntry::Ended(target),
+            ChildEntry::Complete(target) => ChildEntry::Complete(target),
+            ChildEntry::Finish(target) => ChildEntry::Finish(target),
+            ChildEntry::Prepend(status) => ChildEntry::Prepend(status),
+        })
     }
 
     /// Whether the two are equal.

@@ -18,3 +18,6 @@ pub use plan::{
     Reaction, Reactions, StartLane, Verdict,
 };
 pub use step::{ChildStep, ParentStep, Phase, Step};
+
+#[cfg(test)]
+mod tests;
