@@ -3,16 +3,17 @@
 use Rattle.std.specs.Prelude.{ℕ, zero, suc, ◌≡◌, ◌+◌, if◌then◌else◌, nat_le, ◌==◌, List, [], ◌∷◌, ◌++◌, length, take, Option, Some, None}
 use Rattle.nk_base.specs.declared.status.Status.{Status}
 use Rattle.nk_base.specs.declared.message.Entry.{Entry}
-use Rattle.nk_base.specs.declared.message.Entry.TheVariants as shown
+use Rattle.nk_base.specs.Status.{ok, redirect_loop}
 use Rattle.nk_plan.specs.declared.plan.ChannelPlan.{ChannelPlan}
 use Rattle.nk_plan.specs.declared.plan.Hop.{Hop}
-use Rattle.nk_plan.specs.declared.plan.Hop.TheVariants as hop
 use Rattle.nk_plan.specs.declared.plan.Verdict.{Verdict}
+use Rattle.nk_plan.specs.declared.plan.Reaction.{Reaction}
+use Rattle.nk_plan.specs.Plan.{hop_at, code_at, pieces_at, stop_trailers}
+use Rattle.nk_base.specs.declared.message.Entry.TheVariants as shown
+use Rattle.nk_plan.specs.declared.plan.Hop.TheVariants as hop
 use Rattle.nk_plan.specs.declared.plan.Verdict.TheVariants as verdict
 use Rattle.nk_plan.specs.declared.plan.Finish.TheVariants as finish
-use Rattle.nk_plan.specs.declared.plan.Reaction.{Reaction}
 use Rattle.nk_plan.specs.declared.plan.Reaction.TheVariants as reaction
-use Rattle.nk_plan.specs.Plan.{ok, redirect_loop, hop_at, code_at, pieces_at, stop_trailers}
 
 -- no reaction suspends
 abbrev pub NeverSuspends : List Reaction → Type 0

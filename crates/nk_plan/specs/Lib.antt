@@ -1,4 +1,16 @@
 pub mod Accepted
+pub mod Calm
+pub mod Channel
+pub mod Child
+pub mod Enabled
+pub mod Ending
 pub mod Event
 pub mod Failure
+pub mod Journal
+pub mod Lanes
+pub mod Parent
+pub mod Plan
 pub mod Rows
+pub mod Run
+pub mod Trace
+pub mod Walk

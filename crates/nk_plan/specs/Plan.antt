@@ -2,19 +2,11 @@
 use Rattle.std.specs.Prelude.{ℕ, ◌≡◌, if◌then◌else◌, List, [], ◌∷◌, ◌++◌, slice_get, Option, Some, None}
 use Rattle.nk_base.specs.declared.status.Status.{Status}
 use Rattle.nk_base.specs.declared.field.Field.{Field}
+use Rattle.nk_base.specs.Status.{is_failure}
 use Rattle.nk_plan.specs.declared.plan.ChannelPlan.{ChannelPlan}
 use Rattle.nk_plan.specs.declared.plan.Hop.{Hop}
 use Rattle.nk_plan.specs.declared.plan.Hop.TheVariants as hop
 use Rattle.nk_plan.specs.declared.plan.Finish.TheVariants as finish
-use Rattle.nk_plan.specs.Failure.{is_failure}
-
--- the status of a load that goes well (Firefox's NS_OK)
-abbrev pub ok : Status
-ok = record { 0 = 0 }
-
--- the failure of a load that was redirected too often (Firefox's NS_ERROR_REDIRECT_LOOP)
-abbrev pub redirect_loop : Status
-redirect_loop = record { 0 = 0x804b001f }
 
 -- hop f of a plan, counted from 0
 abbrev pub hop_at : ChannelPlan → ℕ → Option Hop
