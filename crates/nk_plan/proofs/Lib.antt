@@ -1,2 +1,10 @@
+pub mod ChildLaw
 pub mod First
+pub mod Grows
+pub mod Merge
+pub mod ParentLaw
+pub mod Premises
 pub mod Refusals
+pub mod Sent
+pub mod Tools
+pub mod World
