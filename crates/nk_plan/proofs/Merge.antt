@@ -1,6 +1,5 @@
-use Rattle.std.proofs.Common.{ℕ, zero, suc, ◌≡◌, ◌+◌, ◌≤◌, refl, sym, ◌∙◌, ap, subst, List, [], ◌∷◌, ◌++◌, length, Bool, true, false, not, ◌&&◌, ◌||◌, Option, Some, None, ◌⊎◌, inl, inr, if◌then◌else◌, nat_le, slice_get, take, ◌==◌, arith, append_assoc, add_assoc, zero-add, add-zero, drop}
+use Rattle.std.proofs.Common.{ℕ, zero, suc, ◌≡◌, ◌+◌, ◌≤◌, refl, sym, ◌∙◌, ap, subst, List, [], ◌∷◌, ◌++◌, length, Bool, true, false, ◌||◌, Option, Some, None, ◌⊎◌, inl, inr, if◌then◌else◌, nat_le, slice_get, take, ◌==◌, arith, append_assoc, add_assoc, zero-add, add-zero, drop}
 use Rattle.std.proofs.lemmas.Bool.{eqb-true, eq-eqb}
-use Rattle.std.proofs.lemmas.Bool.Decides.{eqb_tells}
 use Rattle.nk_base.specs.declared.status.Status.{Status}
 use Rattle.nk_base.specs.declared.field.Head.{Head}
 use Rattle.nk_base.specs.declared.message.MainMsg.{MainMsg}
@@ -14,25 +13,23 @@ use Rattle.nk_plan.specs.declared.plan.Control.{Control}
 use Rattle.nk_plan.specs.declared.journal.ParentEntry.{ParentEntry}
 use Rattle.nk_plan.specs.declared.journal.ChildEntry.{ChildEntry}
 use Rattle.nk_plan.specs.declared.step.ChildStep.{ChildStep}
-use Rattle.nk_base.specs.Status.{ok, is_failure}
-use Rattle.nk_plan.specs.Plan.{hop_at, hop_code, hop_pieces, EndsWell}
-use Rattle.nk_plan.proofs.Premises.{HopOk, PlanOk, ActOk}
+use Rattle.nk_base.specs.Status.{is_failure}
+use Rattle.nk_plan.specs.Plan.{hop_at, hop_code, hop_pieces}
+use Rattle.nk_plan.proofs.Premises.{PlanOk, ActOk}
 use Rattle.nk_plan.specs.Trace.{SeqTrace}
 use Rattle.nk_plan.specs.Run.{IsParentRun, IsChildState, Down}
-use Rattle.nk_plan.specs.Parent.{parent_after, size_of}
-use Rattle.nk_plan.specs.Journal.{ups_taken, mains_sent, backs_sent, first, final, cut, mains_taken, backs_taken, main_in, back_in}
-use Rattle.nk_plan.specs.Lanes.{IsRedirect, redirects_to, RedirectsTo, IsHead, piece_messages, question, main_start, back_start, stop_message, StopCause, StopCauseIf, Unstarted, IsCancelled, IsVerified, EndsWith, IsPrefix}
+use Rattle.nk_plan.specs.Parent.{size_of}
+use Rattle.nk_plan.specs.Journal.{ups_taken, mains_sent, backs_sent, first, final, cut, mains_taken, backs_taken}
+use Rattle.nk_plan.specs.Lanes.{redirects_to, IsHead, piece_messages, question, main_start, back_start, stop_message, StopCauseIf, Unstarted, IsPrefix}
 use Rattle.nk_plan.proofs.Sent.{Begun, SentLaw}
 use Rattle.nk_plan.specs.declared.event.ChildEvent.{ChildEvent}
-use Rattle.nk_plan.specs.declared.event.ChildEvent.TheVariants.{Start, Bytes, Stop, Redirect1, Redirect3, Cancel}
-use Rattle.nk_plan.specs.Child.{Hold, ChildState, offer_all, with_entry, is_due, perform_control, step_act, perform_call, call_break, main_events_of, note_main, step_main, note_report, note_redirect, back_hop, back_events_of, back_events, is_among, keep_back, hold_back, step_back, of_hop, not_of_hop, released_hold, step_release, new_hold, new_child, child_step, child_after, step_begin, step_finish, step_verdict}
+use Rattle.nk_plan.specs.Child.{Hold, ChildState, offer_all, with_entry, perform_control, step_act, perform_call, call_break, main_events_of, note_main, step_main, note_report, note_redirect, back_hop, back_events_of, back_events, is_among, keep_back, hold_back, step_back, of_hop, not_of_hop, released_hold, step_release, new_hold, new_child, child_step, child_after, step_verdict}
 use Rattle.nk_plan.proofs.Tools.{keeps_if, append_nil}
 use Rattle.std.proofs.lemmas.List.{take-append-drop}
 use Rattle.std.proofs.Math.Seq.{drop-length}
-use Rattle.nk_plan.specs.declared.step.ParentStep.{ParentStep}
-use Rattle.nk_plan.proofs.Grows.{Grows, Grown, Extends, step_grows, main_grows, back_grows, noted_grows, mains-append, backs-append}
+use Rattle.nk_plan.proofs.Grows.{Grows, Extends, step_grows, main_grows, back_grows, noted_grows, mains-append, backs-append}
 use Rattle.nk_plan.proofs.ParentLaw.{lane_law}
-use Rattle.nk_plan.proofs.ChildLaw.{Place, AtHop, InBody, AtEnd, Legal, strip, NotCancel, NoCancel, CancelsFirst, Fits, Says, stops, Around, Holds, Keeps, Broken, NotBreak, start_code, strip-append, says_new, offered_all_keeps, same_entry, performed_keeps, begun_keeps, finished_keeps, verdict_keeps, broken_keeps, or_false, or_false_right, or_else_none, trace_of}
+use Rattle.nk_plan.proofs.ChildLaw.{AtHop, InBody, Legal, strip, NoCancel, stops, Around, Holds, Keeps, Broken, strip-append, says_new, offered_all_keeps, same_entry, performed_keeps, begun_keeps, finished_keeps, verdict_keeps, broken_keeps, or_false, or_false_right, or_else_none, trace_of}
 use Rattle.nk_base.specs.declared.status.Target.TheVariants as target
 use Rattle.nk_base.specs.declared.message.MainMsg.TheVariants as main
 use Rattle.nk_base.specs.declared.message.BackMsg.TheVariants as back

@@ -1,4 +1,4 @@
-use Rattle.std.proofs.Common.{ℕ, zero, suc, ◌≡◌, ◌+◌, ◌≤◌, refl, sym, ◌∙◌, ap, subst, List, [], ◌∷◌, ◌++◌, length, Bool, true, false, Option, Some, None, ◌⊎◌, inl, inr, if◌then◌else◌, slice_get, take, ◌==◌, arith, append_assoc, add_assoc, zero-add, add-zero, sum_by, ℤ, pos, int_lt}
+use Rattle.std.proofs.Common.{ℕ, suc, ◌≡◌, ◌+◌, ◌≤◌, refl, sym, ◌∙◌, ap, subst, List, [], ◌∷◌, ◌++◌, length, Bool, true, false, Option, Some, None, ◌⊎◌, inl, inr, if◌then◌else◌, slice_get, take, ◌==◌, arith, append_assoc, add_assoc, zero-add, add-zero, pos, int_lt}
 use Rattle.std.proofs.lemmas.Bool.{eqb-true}
 use Rattle.std.proofs.lemmas.Bool.Decides.{eqb_tells}
 use Rattle.nk_base.specs.declared.status.Status.{Status}
@@ -13,16 +13,16 @@ use Rattle.nk_plan.specs.declared.plan.Finish.{Finish}
 use Rattle.nk_plan.specs.declared.journal.ParentEntry.{ParentEntry}
 use Rattle.nk_plan.specs.declared.step.ParentStep.{ParentStep}
 use Rattle.nk_base.specs.Status.{ok, is_failure, redirect_loop}
-use Rattle.nk_plan.specs.Plan.{hop_at, hop_code, hop_pieces, hop_trailers, stop_trailers, EndsWell}
+use Rattle.nk_plan.specs.Plan.{hop_at, hop_code, hop_pieces, stop_trailers}
 use Rattle.nk_plan.proofs.Premises.{HopOk, FinishOk, PlanOk}
 use Rattle.nk_plan.specs.Failure.{kept_status, merged}
-use Rattle.nk_plan.specs.Parent.{size_of, ParentState, new_parent, opened_phase, kept_after_cancel, awaits_verdict, with_taken, take_up, start_entries, give_start, bare_head, stop_entry, offset_of, fetch_finish, fetch_piece, fetch_body, fetch_redirect, fetch_hop, fetch_follow, fetch_in, parent_step, parent_after}
+use Rattle.nk_plan.specs.Parent.{size_of, ParentState, opened_phase, kept_after_cancel, awaits_verdict, start_entries, give_start, bare_head, offset_of, fetch_finish, fetch_piece, fetch_body, fetch_redirect, fetch_hop, fetch_follow, fetch_in, parent_step, parent_after}
 use Rattle.nk_plan.specs.declared.step.Phase.{Phase}
 use Rattle.nk_plan.specs.declared.step.Phase.TheVariants.{Closed, Ready, Asking, Follow, Body, Done}
 use Rattle.nk_plan.specs.Journal.{ups_taken, mains_sent, backs_sent}
-use Rattle.nk_plan.specs.Lanes.{IsRedirect, redirects_to, RedirectsTo, IsHead, piece_messages, question, main_start, back_start, stop_message, Among, IsCancelled, IsVerified, EndsWith, StartCause, StopCause, StopCauseIf, Unstarted}
+use Rattle.nk_plan.specs.Lanes.{IsRedirect, redirects_to, RedirectsTo, IsHead, piece_messages, question, main_start, back_start, IsCancelled, IsVerified, StartCause, StopCause, StopCauseIf}
 use Rattle.nk_plan.proofs.Sent.{Begun, SentLaw}
-use Rattle.nk_plan.proofs.Tools.{keeps_if, append_nil, among_more, among_last, take_next, take_whole, past_end, before_end}
+use Rattle.nk_plan.proofs.Tools.{keeps_if, append_nil, among_more, among_last, take_next, past_end, before_end}
 use Rattle.nk_base.specs.declared.message.MainMsg.TheVariants as main
 use Rattle.nk_base.specs.declared.message.BackMsg.TheVariants as back
 use Rattle.nk_base.specs.declared.message.UpMsg.TheVariants as up

@@ -1,5 +1,5 @@
 -- What the laws need of an accepted plan.
-use Rattle.std.proofs.Common.{ℕ, ◌≡◌, ◌≤◌, true, List, [], ◌∷◌, slice_get, Option, Some, None}
+use Rattle.std.proofs.Common.{ℕ, ◌≡◌, ◌≤◌, true, false, List, [], ◌∷◌, slice_get, Option, Some, None}
 use Rattle.nk_base.specs.declared.status.Status.{Status}
 use Rattle.nk_base.specs.Status.{is_failure}
 use Rattle.nk_plan.specs.declared.plan.ChannelPlan.{ChannelPlan}
@@ -8,7 +8,12 @@ use Rattle.nk_plan.specs.declared.plan.Verdict.{Verdict}
 use Rattle.nk_plan.specs.declared.plan.Control.{Control}
 use Rattle.nk_plan.specs.declared.plan.Finish.{Finish}
 use Rattle.nk_plan.specs.declared.plan.Reaction.{Reaction}
-use Rattle.nk_plan.specs.Plan.{hop_at}
+use Rattle.nk_plan.specs.declared.step.Step.{Step}
+use Rattle.nk_plan.specs.declared.step.Phase.TheVariants.{Body}
+use Rattle.nk_plan.specs.Plan.{hop_at, pieces_at}
+use Rattle.nk_plan.specs.Parent.{ParentState}
+use Rattle.nk_plan.specs.Channel.{Channel}
+use Rattle.nk_plan.specs.Enabled.{body_enabled, channel_enabled}
 use Rattle.nk_plan.specs.declared.plan.Hop.TheVariants as hop
 use Rattle.nk_plan.specs.declared.plan.Verdict.TheVariants as verdict
 use Rattle.nk_plan.specs.declared.plan.Act.TheVariants as act
@@ -61,3 +66,11 @@ EndsByFailure (reaction.StartRetarget w ∷ rs) = EndsByFailure rs
 EndsByFailure (reaction.StartCancel s ∷ rs) = (is_failure s ≡ true) × EndsByFailure rs
 EndsByFailure (reaction.StartFail s ∷ rs) = (is_failure s ≡ true) × EndsByFailure rs
 EndsByFailure (reaction.BytesFail n s ∷ rs) = (is_failure s ≡ true) × (1 ≤ n) × EndsByFailure rs
+
+-- no step of the channel is enabled, on whatever target
+abbrev pub IsStill : ChannelPlan → Channel → Type 0
+IsStill c w = (x : Step) → channel_enabled c x w ≡ false
+
+-- a parent that waits for credit
+abbrev pub WantsCredit : ChannelPlan → ParentState → Type 0
+WantsCredit c p = (p.phase ≡ Body) × (body_enabled p p.kept (pieces_at c p.hop) ≡ false)

@@ -1,5 +1,5 @@
 -- What a parent sent, in the form in which its steps keep it: the lane law, with each list told by an equation.
-use Rattle.std.proofs.Common.{ℕ, ◌≡◌, ◌+◌, ◌≤◌, Bool, true, List, [], ◌∷◌, ◌++◌, append_assoc, length, take, Option, Some, None, ◌⊎◌, inl, inr, refl}
+use Rattle.std.proofs.Common.{ℕ, ◌≡◌, ◌≤◌, Bool, true, List, [], ◌++◌, length, take, Option, ◌⊎◌, inl, inr}
 use Rattle.nk_base.specs.declared.status.Status.{Status}
 use Rattle.nk_base.specs.declared.field.Head.{Head}
 use Rattle.nk_base.specs.declared.message.MainMsg.{MainMsg}

@@ -1,21 +1,19 @@
-use Rattle.std.proofs.Common.{ℕ, zero, suc, ◌≡◌, ◌+◌, ◌≤◌, ◌<◌, refl, sym, ◌∙◌, ap, subst, List, [], ◌∷◌, ◌++◌, length, Bool, true, false, if◌then◌else◌, nat_lt, take, drop, arith, append_assoc, Option, Some, None, slice_get, ◌==◌, ℤ, pos, int_lt, length-append}
-use Rattle.std.proofs.lemmas.List.{take-append-drop, take-append-le}
+use Rattle.std.proofs.Common.{ℕ, zero, suc, ◌≡◌, ◌≤◌, ◌<◌, refl, sym, ◌∙◌, ap, subst, List, [], ◌∷◌, ◌++◌, length, if◌then◌else◌, nat_lt, take, drop, arith, append_assoc, Option, Some, None, slice_get, ◌==◌, pos, int_lt, length-append}
+use Rattle.std.proofs.lemmas.List.{take-append-le}
 use Rattle.nk_base.specs.declared.message.MainMsg.{MainMsg}
 use Rattle.nk_base.specs.declared.message.BackMsg.{BackMsg}
 use Rattle.nk_base.specs.declared.message.UpMsg.{UpMsg}
 use Rattle.nk_plan.specs.declared.plan.ChannelPlan.{ChannelPlan}
 use Rattle.nk_plan.specs.declared.journal.ParentEntry.{ParentEntry}
 use Rattle.nk_plan.specs.declared.step.ParentStep.{ParentStep}
-use Rattle.nk_plan.specs.declared.journal.ChildEntry.{ChildEntry}
 use Rattle.nk_plan.specs.declared.step.ChildStep.{ChildStep}
 use Rattle.nk_plan.proofs.Premises.{PlanOk}
 use Rattle.nk_plan.specs.Trace.{SeqTrace}
-use Rattle.nk_plan.specs.Run.{IsParentRun, IsChildState, Down}
-use Rattle.nk_plan.specs.Parent.{ParentState, parent_after, parent_step, start_entries, give_start, bare_head, stop_entry, fetch_finish, fetch_piece, fetch_body, fetch_redirect, fetch_hop, fetch_follow, fetch_in, take_up, with_taken, new_parent}
+use Rattle.nk_plan.specs.Parent.{ParentState, parent_after, parent_step, start_entries, give_start, bare_head, fetch_finish, fetch_piece, fetch_body, fetch_redirect, fetch_hop, fetch_follow, fetch_in, take_up}
 use Rattle.nk_plan.specs.Journal.{mains_sent, backs_sent, ups_taken, mains_taken, backs_taken, first, final, cut}
 use Rattle.nk_plan.specs.Child.{ChildState, child_after, child_step, with_entry, step_main, step_back}
 use Rattle.nk_plan.specs.Lanes.{IsPrefix}
-use Rattle.nk_plan.specs.Channel.{Channel, main_lane, back_lane, up_lane, up_step, main_step, back_step, forward_step, channel_step, new_channel, channel_after}
+use Rattle.nk_plan.specs.Channel.{Channel, main_lane, back_lane, up_lane, up_step, main_step, back_step, forward_step, channel_step, channel_after}
 use Rattle.nk_plan.specs.declared.step.Step.{Step}
 use Rattle.nk_plan.specs.declared.step.Step.TheVariants.{Act, Verdict, Fetch, Up, Forward, Main, Back, Release, Begin, Finish, Read}
 use Rattle.nk_plan.specs.declared.plan.StartLane.{StartLane}

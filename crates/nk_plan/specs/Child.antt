@@ -1,6 +1,6 @@
 -- The child's table: what each step does to the half of a channel that the page sees.
 -- In outline after Firefox's HttpChannelChild and HttpBackgroundChannelChild; the table is this project's own.
-use Rattle.std.specs.Prelude.{ℕ, suc, ◌≡◌, ◌+◌, ◌-◌, Bool, true, false, not, ◌&&◌, ◌||◌, if◌then◌else◌, nat_lt, nat_le, ◌==◌, List, [], ◌∷◌, ◌++◌, length, slice_get, slice_index, Option, Some, None, is_some}
+use Rattle.std.specs.Prelude.{ℕ, suc, ◌+◌, ◌-◌, Bool, true, false, not, ◌||◌, if◌then◌else◌, nat_lt, nat_le, ◌==◌, List, [], ◌∷◌, ◌++◌, length, slice_get, slice_index, Option, Some, None, is_some}
 use Rattle.nk_base.specs.declared.status.Status.{Status}
 use Rattle.nk_base.specs.declared.status.Target.{Target}
 use Rattle.nk_base.specs.declared.status.RetargetError.{RetargetError}

@@ -6,6 +6,7 @@ mod ends;
 mod event;
 mod journal;
 mod kept;
+mod laws;
 mod plan;
 mod step;
 

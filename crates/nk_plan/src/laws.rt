@@ -1,0 +1,1 @@
+// The laws over the definitions.
