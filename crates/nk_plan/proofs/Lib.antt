@@ -1,4 +1,5 @@
 pub mod Asking
+pub mod Blocks
 pub mod CalmEnd
 pub mod CalmRun
 pub mod ChildLaw
@@ -10,8 +11,12 @@ pub mod Heard
 pub mod Led
 pub mod Lively
 pub mod Merge
+pub mod More
+pub mod Ordered
+pub mod Orders
 pub mod Paid
 pub mod ParentLaw
+pub mod Placing
 pub mod Premises
 pub mod Quiz
 pub mod Refusals

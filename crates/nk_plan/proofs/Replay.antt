@@ -227,7 +227,7 @@ stays c j s k (suc n) e l r = elim (le_or_more k n) [
   | inr x ↦ let z : k ≡ suc n = omega arith in rw z at r
 ]
 
-child_replayed : (c : ChannelPlan) (steps : List ChildStep) (j : List ChildEntry) → (child_after c steps).journal ≡ j → state_of c j ≡ child_after c steps
+pub child_replayed : (c : ChannelPlan) (steps : List ChildStep) (j : List ChildEntry) → (child_after c steps).journal ≡ j → state_of c j ≡ child_after c steps
 child_replayed c steps j e =
     let r : (k : ℕ) × (k ≤ length (child_after c steps).journal) × (replayed c j k ≡ child_after c steps) = reach c steps [] j (append_nil (child_after c steps).journal ∙ e) in
     let l : r.0 ≤ length j = subst (λ t. r.0 ≤ length t) e r.1 in
@@ -317,7 +317,7 @@ parent_stays c j s k (suc n) e l r = elim (le_or_more k n) [
   | inr x ↦ let z : k ≡ suc n = omega arith in rw z at r
 ]
 
-parent_is_replayed : (c : ChannelPlan) (steps : List ParentStep) (j : List ParentEntry) → (parent_after c steps).journal ≡ j → parent_state_of c j ≡ parent_after c steps
+pub parent_is_replayed : (c : ChannelPlan) (steps : List ParentStep) (j : List ParentEntry) → (parent_after c steps).journal ≡ j → parent_state_of c j ≡ parent_after c steps
 parent_is_replayed c steps j e =
     let r : (k : ℕ) × (k ≤ length (parent_after c steps).journal) × (parent_replayed c j k ≡ parent_after c steps) = parent_reach c steps [] j (append_nil (parent_after c steps).journal ∙ e) in
     let l : r.0 ≤ length j = subst (λ t. r.0 ≤ length t) e r.1 in
