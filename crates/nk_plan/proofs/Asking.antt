@@ -234,7 +234,7 @@ asking_still c steps v r still ask =
       | inl x ↦
           let e : s.queue.waiting ≡ [] = nothing_waits c s lively (λ t. still (Begin t)) (λ t. still (Finish t)) x in
           elim (channel_inv c steps v) [
-            | inr i ↦ inl (cut_stopped c s i e)
+            | inr i ↦ inl (cut_stopped c _ s i e)
             | inl i ↦
                 let nb : s.broken ≡ false = whole_unbroken c _ _ s i in
                 let all : mains_taken s.journal ≡ mains_sent p.journal = prefix_all (mains_taken s.journal) (mains_sent p.journal) j.mains (none_has (main_lane w) (unless s.broken (has_some (main_lane w)) nb (still Main))) in

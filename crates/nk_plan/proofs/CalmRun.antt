@@ -155,8 +155,8 @@ calm_step c E T G md bd child.Release s ef cp ev rm rb l i w k = calm_plain c E 
 calm_step c E T G md bd (child.Begin t) s ef cp ev rm rb l i w k = calm_plain c E T G md bd (child.Begin t) s ef cp ev l i tt k
 calm_step c E T G md bd (child.Finish t) s ef cp ev rm rb l i w k = calm_plain c E T G md bd (child.Finish t) s ef cp ev l i tt k
 
-not_cut : (c : ChannelPlan) (s : ChildState) → s.broken ≡ false → Cut c s → ⊥
-not_cut c s e i = let x : s.broken ≡ true = broken_is c i.around _ _ s i.keeps ∙ i.broken in cc
+not_cut : (c : ChannelPlan) (md : List MainMsg) (s : ChildState) → s.broken ≡ false → Cut c md s → ⊥
+not_cut c md s e i = let x : s.broken ≡ true = broken_is c i.around _ _ s i.keeps ∙ i.broken in cc
 
 first_none : (l : StartLane) → (new_hold l).kept ≡ []
 first_none lane.Main = refl
@@ -188,7 +188,7 @@ calm_steps c E T G md bd (x ∷ xs) v r ef cp ev rm rb i w =
     let k : CalmRun c E T G s = calm_steps c E T G md bd xs v r ef cp ev rm rb i w0 in
     elim (run_inv c md bd xs v i w0) [
       | inl j ↦ calm_step c E T G md bd x s ef cp ev rm rb (child_lively c xs r) j w k
-      | inr j ↦ absurd (not_cut c s k.unbroken j)
+      | inr j ↦ absurd (not_cut c _ s k.unbroken j)
     ]
 
 pub channel_calm : (c : ChannelPlan) (E : Status) (T : Status → Type 0) (G : Type 0) (steps : List Step) → PlanOk c → RangesOk c → OkOrFails E → IsCalm c → EndsByFailure c.reactions

@@ -181,7 +181,7 @@ or_else_assoc : {A : Type 0} (a b d : Option A) → or_else (or_else a b) d ≡ 
 or_else_assoc None b d = refl
 or_else_assoc (Some a) b d = refl
 
-first_then : (j : List ChildEntry) (e : ChildEntry) → first (j ++ e ∷ []) ≡ or_else (first j) (failure_in e)
+pub first_then : (j : List ChildEntry) (e : ChildEntry) → first (j ++ e ∷ []) ≡ or_else (first j) (failure_in e)
 first_then [] e = or_else_none (failure_in e)
 first_then (d ∷ j) e = ap (λ t. or_else (failure_in d) t) (first_then j e) ∙ sym (or_else_assoc (failure_in d) (first j) (failure_in e))
 
@@ -195,7 +195,7 @@ swap_if true false n = refl
 swap_if false true n = refl
 swap_if false false n = refl
 
-final_then : (j : List ChildEntry) (e : ChildEntry) → final (j ++ e ∷ []) ≡ (if is_redirect3 e then suc (final j) else final j)
+pub final_then : (j : List ChildEntry) (e : ChildEntry) → final (j ++ e ∷ []) ≡ (if is_redirect3 e then suc (final j) else final j)
 final_then [] e = refl
 final_then (d ∷ j) e = ap (λ t. if is_redirect3 d then suc t else t) (final_then j e) ∙ swap_if (is_redirect3 d) (is_redirect3 e) (final j)
 
@@ -307,11 +307,11 @@ failure_again : (b : Bool) (st : Status) → is_failure st ≡ b → failure (ke
 failure_again true st e = rw e refl
 failure_again false st e = refl
 
-merged_says : (kept : Option Status) (st : Status) (k : Option Status) → merged kept st ≡ k → or_else kept (failure (kept_status k)) ≡ k
+pub merged_says : (kept : Option Status) (st : Status) (k : Option Status) → merged kept st ≡ k → or_else kept (failure (kept_status k)) ≡ k
 merged_says None st k e = rw (← e) (failure_again (is_failure st) st refl)
 merged_says (Some q) st k e = e
 
-merged_none : (kept : Option Status) (st : Status) → merged kept st ≡ None → kept ≡ None
+pub merged_none : (kept : Option Status) (st : Status) → merged kept st ≡ None → kept ≡ None
 merged_none None st e = refl
 merged_none (Some q) st e = e
 
@@ -543,7 +543,7 @@ redirect3_runs c a pend w t i s (AtHop o, l, n, (f, g, d, m), j, h, b, z) = (
   z,
 )
 
-cancel_says : (kept : Option Status) (st : Status) → or_else kept (failure st) ≡ merged kept st
+pub cancel_says : (kept : Option Status) (st : Status) → or_else kept (failure st) ≡ merged kept st
 cancel_says None st = refl
 cancel_says (Some q) st = refl
 
@@ -805,7 +805,7 @@ verdict_keeps c a pend (Some i) s k = same_entry c a pend _ s (child.Verdict i _
 -- A break: what waits is dropped, and a start, where none was shown, and a stop come in its place
 
 abbrev pub Broken : ChannelPlan → Around → ChildState → Type 0
-Broken c a s = (f : ℕ) × (x : Bool) × Keeps c (record { final = f; cut = x; hold = a.hold; broken = true; ends = true; mains = a.mains; backs = a.backs }) [] s
+Broken c a s = (f : ℕ) × (x : Bool) × Keeps c (record { final = f; cut = x; hold = a.hold; broken = true; ends = true; mains = a.mains; backs = a.backs }) [] s × (x ≡ false → f ≡ a.final)
 
 fails : (st : Status) → is_failure st ≡ true → (P : Type 0) → is_failure st ≡ false → P
 fails st e P n = let no : true ≡ false = sym e ∙ n in cc
@@ -836,7 +836,7 @@ broken_keeps c a pend w st s nc ns sf (AtHop i, l, n, (f, g, d, m), j, h, b, z) 
       refl,
     ) in
     let e : is_empty s.trace ≡ true = rw f refl in
-    (i, true, rw e (offered_all_keeps c a1 [] target.Main (Start 0 st ∷ Stop st ∷ []) s1 (tt, (tt, tt)) k1))
+    (i, true, rw e (offered_all_keeps c a1 [] target.Main (Start 0 st ∷ Stop st ∷ []) s1 (tt, (tt, tt)) k1), λ x. cc)
 broken_keeps c a pend w st s nc ns sf (InBody o ps, l, n, (f, g), j, h, b, z) =
     let s1 : ChildState = record s { broken = true; kept = merged s.kept st; queue = cleared s.queue; journal = s.journal ++ child.Break st ∷ [] } in
     let a1 : Around = record { final = a.final; cut = a.cut; hold = a.hold; broken = true; ends = true; mains = a.mains; backs = a.backs } in
@@ -851,7 +851,7 @@ broken_keeps c a pend w st s nc ns sf (InBody o ps, l, n, (f, g), j, h, b, z) =
       refl,
     ) in
     let e : is_empty s.trace ≡ false = rw f.shows refl in
-    (a.final, a.cut, rw e (offered_all_keeps c a1 [] target.Main (Stop st ∷ []) s1 (tt, tt) k1))
+    (a.final, a.cut, rw e (offered_all_keeps c a1 [] target.Main (Stop st ∷ []) s1 (tt, tt) k1), λ x. refl)
 
 -- What a child has shown is a trace of one sequential channel
 

@@ -27,6 +27,7 @@ pub mod Settled
 pub mod Still
 pub mod Tally
 pub mod Targets
+pub mod Tells
 pub mod Told
 pub mod Tools
 pub mod World

@@ -112,14 +112,15 @@ pub record Whole (c : ChannelPlan) (md : List MainMsg) (bd : List BackMsg) (s : 
   pub due : some ≡ true → Due c hop around.hold um
   pub none : some ≡ false → (around.hold.kept ≡ []) × (ub ≡ [])
 
-pub record Cut (c : ChannelPlan) (s : ChildState) : Type 0 where
+pub record Cut (c : ChannelPlan) (md : List MainMsg) (s : ChildState) : Type 0 where
   pub around : Around
   pub keeps : Keeps c around [] s
+  pub final_at : around.cut ≡ false → around.final ≡ redirects md
   pub broken : around.broken ≡ true
   pub ends_is : around.ends ≡ true
 
 abbrev pub Inv : ChannelPlan → List MainMsg → List BackMsg → ChildState → Type 0
-Inv c md bd s = Whole c md bd s ⊎ Cut c s
+Inv c md bd s = Whole c md bd s ⊎ Cut c md s
 
 -- The fields of an invariant that steps look at
 
@@ -138,8 +139,8 @@ backs_is c a pend w s (pl, l, n, f, j, h, b, z) = j.backs_are
 pub whole_unbroken : (c : ChannelPlan) (md : List MainMsg) (bd : List BackMsg) (s : ChildState) → Whole c md bd s → s.broken ≡ false
 whole_unbroken c md bd s i = broken_is c i.around _ _ s i.keeps ∙ i.not_broken
 
-pub cut_broken : (c : ChannelPlan) (s : ChildState) → Cut c s → s.broken ≡ true
-cut_broken c s i = broken_is c i.around _ _ s i.keeps ∙ i.broken
+pub cut_broken : (c : ChannelPlan) (md : List MainMsg) (s : ChildState) → Cut c md s → s.broken ≡ true
+cut_broken c md s i = broken_is c i.around _ _ s i.keeps ∙ i.broken
 
 -- another list of events to come, with the same order
 same_order : (c : ChannelPlan) (a : Around) (pend pend' w : List ChildEvent) (s : ChildState) → strip pend ≡ strip pend' → Holds c a pend w s → Holds c a pend' w s
@@ -173,7 +174,7 @@ whole_by c md bd s s' i f = record {
 inv_by : (c : ChannelPlan) (md : List MainMsg) (bd : List BackMsg) (s s' : ChildState)
     → ((a : Around) (pend : List ChildEvent) → Keeps c a pend s → Keeps c a pend s') → Inv c md bd s → Inv c md bd s'
 inv_by c md bd s s' f (inl i) = inl (whole_by c md bd s s' i f)
-inv_by c md bd s s' f (inr i) = inr (record { around = i.around; keeps = f i.around [] i.keeps; broken = i.broken; ends_is = i.ends_is })
+inv_by c md bd s s' f (inr i) = inr (record { around = i.around; keeps = f i.around [] i.keeps; final_at = i.final_at; broken = i.broken; ends_is = i.ends_is })
 
 -- The step of the page
 
@@ -187,8 +188,8 @@ break_inv c md bd s st sf i =
     (λ r. elim i [
       | inl x ↦
           let b : Broken c x.around (call_break c st s) = broken_keeps c x.around _ _ st s x.not_cut (or_false s.stopped s.broken r) sf x.keeps in
-          inr (record { around = record { final = b.0; cut = b.1; hold = x.around.hold; broken = true; ends = true; mains = x.around.mains; backs = x.around.backs }; keeps = b.2; broken = refl; ends_is = refl })
-      | inr x ↦ let y : s.broken ≡ true = cut_broken c s x in let z : s.broken ≡ false = or_false_right s.stopped s.broken r in absurd (cc)
+          inr (record { around = record { final = b.0; cut = b.1; hold = x.around.hold; broken = true; ends = true; mains = x.around.mains; backs = x.around.backs }; keeps = b.2; final_at = (λ e. b.3 e ∙ x.final_at); broken = refl; ends_is = refl })
+      | inr x ↦ let y : s.broken ≡ true = cut_broken c md s x in let z : s.broken ≡ false = or_false_right s.stopped s.broken r in absurd (cc)
     ])
 
 act_inv : (c : ChannelPlan) (md : List MainMsg) (bd : List BackMsg) (s : ChildState) (x : Act) → ((st : Status) → x ≡ act.Break st → is_failure st ≡ true) → Inv c md bd s → Inv c md bd (perform_call c x s)
@@ -756,7 +757,7 @@ back_step c m md bd s i w =
 unless_broken : (c : ChannelPlan) (md : List MainMsg) (bd : List BackMsg) (s s' : ChildState)
     → (Whole c md bd s → s.broken ≡ false → Whole c md bd s') → Inv c md bd s → Inv c md bd (if s.broken then s else s')
 unless_broken c md bd s s' f (inl i) = keeps_if (Inv c md bd) s.broken s s' (λ r. inl i) (λ r. inl (f i r))
-unless_broken c md bd s s' f (inr i) = keeps_if (Inv c md bd) s.broken s s' (λ r. inr i) (λ r. let e : s.broken ≡ true = cut_broken c s i in absurd (cc))
+unless_broken c md bd s s' f (inr i) = keeps_if (Inv c md bd) s.broken s s' (λ r. inr i) (λ r. let e : s.broken ≡ true = cut_broken c md s i in absurd (cc))
 
 if_false : {A : Type 0} (b : Bool) (x y : A) → b ≡ false → (if b then x else y) ≡ y
 if_false true x y e = cc

@@ -127,7 +127,7 @@ credit_still c steps v r q z (body, wants) =
     let lively : IsLively s = subst (λ (x : ChildState). IsLively x) j.child_is (child_lively c j.child_steps r) in
     let e : s.queue.waiting ≡ [] = nothing_waits c s lively (λ t. q (Begin t)) (λ t. q (Finish t)) z in
     elim (channel_inv c steps v) [
-      | inr i ↦ cut_stopped c s i e
+      | inr i ↦ cut_stopped c _ s i e
       | inl i ↦
           let nb : s.broken ≡ false = whole_unbroken c _ _ s i in
           let idle : s.running ≡ None = idle_run s.running (λ t. q (Finish t)) in

@@ -83,8 +83,8 @@ over_none : (w : List ChildEvent) (um : List MainMsg) (kept ub : List BackMsg) (
     → stops (strip (w ++ (main_events um ++ (back_events kept ++ back_events ub)))) stopped ≡ ends → stopped ≡ ends
 over_none w um kept ub stopped ends ew eu ek eb z = rw (ew, eu, ek, eb) at z
 
-pub cut_stopped : (c : ChannelPlan) (s : ChildState) (i : Cut c s) → s.queue.waiting ≡ [] → s.stopped ≡ true
-cut_stopped c s i e =
+pub cut_stopped : (c : ChannelPlan) (md : List MainMsg) (s : ChildState) (i : Cut c md s) → s.queue.waiting ≡ [] → s.stopped ≡ true
+cut_stopped c md s i e =
     let z : stops (strip (s.queue.waiting ++ [])) s.stopped ≡ i.around.ends = ends_at c i.around [] _ s i.keeps in
     over_none s.queue.waiting [] [] [] s.stopped i.around.ends e refl refl refl z ∙ i.ends_is
 
@@ -133,7 +133,7 @@ child_still c steps v r still =
           let e : w.child.queue.waiting ≡ [] = nothing_waits c w.child lively (λ t. still (Begin t)) (λ t. still (Finish t)) x in
           elim (channel_inv c steps v) [
             | inl i ↦ by_bool (sent_all w) (λ y. inl (whole_still c w j still e i ∙ y)) (λ y. inr (inr y))
-            | inr i ↦ inl (cut_stopped c w.child i e)
+            | inr i ↦ inl (cut_stopped c _ w.child i e)
           ]
     ]
 

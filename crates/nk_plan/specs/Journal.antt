@@ -1,5 +1,5 @@
 -- What the two journals of a channel say. This project's own.
-use Rattle.std.specs.Prelude.{ℕ, suc, Bool, true, false, ◌||◌, if◌then◌else◌, List, [], ◌∷◌, ◌++◌, Option, Some, None}
+use Rattle.std.specs.Prelude.{ℕ, suc, ◌≡◌, Bool, true, false, ◌||◌, if◌then◌else◌, List, [], ◌∷◌, ◌++◌, Option, Some, None}
 use Rattle.nk_base.specs.declared.status.Status.{Status}
 use Rattle.nk_base.specs.declared.message.MainMsg.{MainMsg}
 use Rattle.nk_base.specs.declared.message.BackMsg.{BackMsg}
@@ -24,6 +24,15 @@ failure_in _ = None
 abbrev pub first : List ChildEntry → Option Status
 first [] = None
 first (e ∷ j) = or_else (failure_in e) (first j)
+
+-- no entry is the run of a piece behind an entry that brings a failure; q is the failure of the entries before, if any
+abbrev pub is_data : ChildEntry → Bool
+is_data (child.RunBytes t o n) = true
+is_data _ = false
+
+abbrev pub NoDataBehind : Option Status → List ChildEntry → Type 0
+NoDataBehind q [] = Unit {0}
+NoDataBehind q (e ∷ j) = (is_data e ≡ true → q ≡ None) × NoDataBehind (or_else q (failure_in e)) j
 
 -- how many entries of a journal are of a kind
 abbrev pub count_of : (ChildEntry → Bool) → List ChildEntry → ℕ

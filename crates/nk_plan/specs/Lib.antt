@@ -12,5 +12,6 @@ pub mod Parent
 pub mod Plan
 pub mod Rows
 pub mod Run
+pub mod Telling
 pub mod Trace
 pub mod Walk
