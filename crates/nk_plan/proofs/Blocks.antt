@@ -13,7 +13,7 @@ use Rattle.nk_plan.specs.declared.step.ParentStep.{ParentStep}
 use Rattle.nk_plan.specs.declared.step.ParentStep.TheVariants as parent
 use Rattle.nk_plan.specs.declared.step.ChildStep.{ChildStep}
 use Rattle.nk_plan.specs.declared.step.ChildStep.TheVariants as child
-use Rattle.nk_plan.specs.Journal.{ups_taken, mains_sent, backs_sent, mains_taken, backs_taken}
+use Rattle.nk_plan.specs.Journal.{ups_taken, mains_sent, backs_sent, main_in, back_in, mains_taken, backs_taken}
 use Rattle.nk_plan.specs.Parent.{ParentState, take_up, parent_step, parent_after}
 use Rattle.nk_plan.specs.Child.{ChildState, with_entry, step_main, step_back, child_step, child_after}
 use Rattle.nk_plan.specs.Run.{parent_block, child_block, parent_blocks, child_blocks}
@@ -31,18 +31,33 @@ abbrev pub ups_of : ParentStep → List UpMsg
 ups_of (parent.Up m) = m ∷ []
 ups_of parent.Fetch = []
 
+-- the entries behind the first take nothing
+abbrev pub ParentTakesFirst : List ParentEntry → Type 0
+ParentTakesFirst [] = Unit {0}
+ParentTakesFirst (e ∷ p) = ups_taken p ≡ []
+
+takes_none : (p : List ParentEntry) → ups_taken p ≡ [] → ParentTakesFirst p
+takes_none [] h = tt
+takes_none (parent_entry.Took m ∷ p) h = cc
+takes_none (parent_entry.SentMain m ∷ p) h = h
+takes_none (parent_entry.SentBack m ∷ p) h = h
+
 pub record ParentEnters (x : ParentStep) (s s' : ParentState) : Type 0 where
   pub entries : List ParentEntry
   pub journal_is : s'.journal ≡ s.journal ++ entries
   pub ups : ups_taken entries ≡ ups_of x
+  pub takes_first : ParentTakesFirst entries
 
 pub parent_enters : (c : ChannelPlan) (x : ParentStep) (s : ParentState) → ParentEnters x s (parent_step c x s)
 parent_enters c (parent.Up m) s = record {
   entries = parent_entry.Took m ∷ [];
   journal_is = ap (λ (t : List ParentEntry). t ++ parent_entry.Took m ∷ []) (up_journal c m s);
   ups = refl;
+  takes_first = refl;
 }
-parent_enters c parent.Fetch s = let a = fetch_step_adds c s in record { entries = a.entries; journal_is = a.journal_is; ups = a.no_up }
+parent_enters c parent.Fetch s =
+    let a = fetch_step_adds c s in
+    record { entries = a.entries; journal_is = a.journal_is; ups = a.no_up; takes_first = takes_none a.entries a.no_up }
 
 -- The child
 
@@ -66,6 +81,19 @@ backs_of child.Release broken = []
 backs_of (child.Begin t) broken = []
 backs_of (child.Finish t) broken = []
 
+-- the entries behind the first take nothing
+abbrev pub ChildTakesFirst : List ChildEntry → Type 0
+ChildTakesFirst [] = Unit {0}
+ChildTakesFirst (e ∷ j) = (mains_taken j ≡ []) × (backs_taken j ≡ [])
+
+last_empty : {A : Type 0} (xs ys : List A) → xs ++ ys ≡ [] → ys ≡ []
+last_empty [] ys h = h
+last_empty (x ∷ xs) ys h = cc
+
+child_takes_none : (j : List ChildEntry) → mains_taken j ≡ [] → backs_taken j ≡ [] → ChildTakesFirst j
+child_takes_none [] m b = tt
+child_takes_none (e ∷ j) m b = (last_empty (main_in e) (mains_taken j) m, last_empty (back_in e) (backs_taken j) b)
+
 pub record ChildEnters (x : ChildStep) (broken : Bool) (s s' : ChildState) : Type 0 where
   pub entries : List ChildEntry
   pub messages : List UpMsg
@@ -73,6 +101,7 @@ pub record ChildEnters (x : ChildStep) (broken : Bool) (s s' : ChildState) : Typ
   pub sent_is : s'.sent ≡ s.sent ++ messages
   pub mains : mains_taken entries ≡ mains_of x broken
   pub backs : backs_taken entries ≡ backs_of x broken
+  pub takes_first : ChildTakesFirst entries
 
 enters_none : (x : ChildStep) (broken : Bool) (s : ChildState) → mains_of x broken ≡ [] → backs_of x broken ≡ [] → ChildEnters x broken s s
 enters_none x broken s m b = record {
@@ -82,6 +111,7 @@ enters_none x broken s m b = record {
   sent_is = sym (append_nil s.sent);
   mains = sym m;
   backs = sym b;
+  takes_first = tt;
 }
 
 enters_plain : (x : ChildStep) (broken : Bool) (s s' : ChildState) → mains_of x broken ≡ [] → backs_of x broken ≡ [] → Grows s.journal s.sent s' → ChildEnters x broken s s'
@@ -92,6 +122,7 @@ enters_plain x broken s s' m b g = record {
   sent_is = g.sent_is;
   mains = g.no_main ∙ sym m;
   backs = g.no_back ∙ sym b;
+  takes_first = child_takes_none g.entries g.no_main g.no_back;
 }
 
 main_enters : (c : ChannelPlan) (m : MainMsg) (broken : Bool) (s : ChildState)
@@ -106,6 +137,7 @@ main_enters c m false s =
       sent_is = g.sent_is;
       mains = ap (λ t. m ∷ t) g.no_main;
       backs = g.no_back;
+      takes_first = (g.no_main, g.no_back);
     }
 
 back_enters : (c : ChannelPlan) (m : BackMsg) (broken : Bool) (s : ChildState)
@@ -120,6 +152,7 @@ back_enters c m false s =
       sent_is = g.sent_is;
       mains = g.no_main;
       backs = ap (λ t. m ∷ t) g.no_back;
+      takes_first = (g.no_main, g.no_back);
     }
 
 pub child_enters : (c : ChannelPlan) (x : ChildStep) (s : ChildState) → ChildEnters x s.broken s (child_step c x s)

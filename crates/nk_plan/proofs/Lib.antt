@@ -5,6 +5,9 @@ pub mod CalmRun
 pub mod ChildLaw
 pub mod Course
 pub mod Credit
+pub mod CutChild
+pub mod CutParent
+pub mod Entries
 pub mod First
 pub mod Grows
 pub mod Heard

@@ -48,7 +48,7 @@ owed_by (Some (t, Cancel st)) = []
 abbrev telling_of : ℕ → Option Status → List UpMsg → Telling
 telling_of n kept owed = record { suspends = n; failed = is_some kept; owed = owed }
 
-abbrev telling_at : Telling → List ChildEntry → Telling
+abbrev pub telling_at : Telling → List ChildEntry → Telling
 telling_at t [] = t
 telling_at t (e ∷ j) = telling_at (telling_after t e) j
 
