@@ -785,7 +785,7 @@ running_ok (Some g) u t h ok e =
     let ok1 : target_number g < 17 = ok in
     omega arith
 
-none_posted : (n k : ℕ) → slice_index (replicate n 0) k ≡ 0
+pub none_posted : (n k : ℕ) → slice_index (replicate n 0) k ≡ 0
 none_posted zero k = refl
 none_posted (suc n) zero = refl
 none_posted (suc n) (suc k) = none_posted n k

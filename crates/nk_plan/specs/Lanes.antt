@@ -140,3 +140,19 @@ Unstarted c f md bd =
 -- what a parent that took u may have sent on the main lane and handed to its background half
 abbrev pub LaneLaw : ChannelPlan → List UpMsg → List MainMsg → List BackMsg → Type 0
 LaneLaw c u md bd = (f : ℕ) × RedirectsTo c f × (Unstarted c f md bd ⊎ Started c u f md bd)
+
+-- Each start is of hop f: on the main lane, where a failed opening is one, and on the background lane
+
+abbrev pub MainsStart : ℕ → List MainMsg → Type 0
+MainsStart f [] = Unit {0}
+MainsStart f (main.Start h s head ∷ md) = (h ≡ f) × MainsStart f md
+MainsStart f (main.FailedOpen h s ∷ md) = (h ≡ f) × MainsStart f md
+MainsStart f (main.Redirect1 h code ∷ md) = MainsStart f md
+MainsStart f (main.Redirect3 h ∷ md) = MainsStart f md
+
+abbrev pub BacksStart : ℕ → List BackMsg → Type 0
+BacksStart f [] = Unit {0}
+BacksStart f (back.Start h s head ∷ bd) = (h ≡ f) × BacksStart f bd
+BacksStart f (back.StartSent h ∷ bd) = (h ≡ f) × BacksStart f bd
+BacksStart f (back.Bytes h s o p ∷ bd) = BacksStart f bd
+BacksStart f (back.Stop h s trailers ∷ bd) = BacksStart f bd

@@ -65,10 +65,14 @@ abbrev pub replay_entry : ChannelPlan → ChildState → Option ChildEntry → C
 replay_entry c s None = s
 replay_entry c s (Some e) = child_step c (step_of e) s
 
--- the state that the first blocks of a journal leave, at most so many: the next block begins behind what was entered
+-- the next block begins behind what was entered so far
+abbrev pub replay_block : ChannelPlan → List ChildEntry → ChildState → ChildState
+replay_block c j s = replay_entry c s (slice_get j (length s.journal))
+
+-- the state that the first blocks of a journal leave, at most so many
 abbrev pub replayed : ChannelPlan → List ChildEntry → ℕ → ChildState
 replayed c j zero = new_child c
-replayed c j (suc blocks) = replay_entry c (replayed c j blocks) (slice_get j (length (replayed c j blocks).journal))
+replayed c j (suc blocks) = replay_block c j (replayed c j blocks)
 
 abbrev pub state_of : ChannelPlan → List ChildEntry → ChildState
 state_of c j = replayed c j (length j)
@@ -88,10 +92,12 @@ abbrev pub parent_replay_entry : ChannelPlan → ParentState → Option ParentEn
 parent_replay_entry c s None = s
 parent_replay_entry c s (Some e) = parent_step c (parent_step_of e) s
 
+abbrev pub parent_replay_block : ChannelPlan → List ParentEntry → ParentState → ParentState
+parent_replay_block c p s = parent_replay_entry c s (slice_get p (length s.journal))
+
 abbrev pub parent_replayed : ChannelPlan → List ParentEntry → ℕ → ParentState
 parent_replayed c p zero = new_parent c
-parent_replayed c p (suc blocks) =
-    parent_replay_entry c (parent_replayed c p blocks) (slice_get p (length (parent_replayed c p blocks).journal))
+parent_replayed c p (suc blocks) = parent_replay_block c p (parent_replayed c p blocks)
 
 abbrev pub parent_state_of : ChannelPlan → List ParentEntry → ParentState
 parent_state_of c p = parent_replayed c p (length p)
