@@ -21,9 +21,11 @@ use Rattle.nk_plan.specs.declared.step.Phase.TheVariants.{Closed, Ready, Asking,
 use Rattle.nk_plan.proofs.ParentLaw.{ups-append, Law, Keeps, parent_keeps}
 use Rattle.nk_plan.proofs.Tools.{keeps_if, append_nil, among_more}
 use Rattle.nk_plan.specs.declared.event.ChildEvent.TheVariants.{Redirect1 as Redirect1Event}
-use Rattle.nk_plan.proofs.Merge.{main_events, main_events-append, whole_unbroken}
+use Rattle.nk_plan.proofs.Merge.{main_events-append}
+use Rattle.nk_plan.proofs.Taking.{main_events, whole_unbroken}
 use Rattle.nk_plan.proofs.World.{Adds, fetch_step_adds, up_journal, Joined, joined}
-use Rattle.nk_plan.proofs.Lively.{IsLively, child_lively, nothing_waits}
+use Rattle.nk_plan.proofs.Lively.{child_lively, nothing_waits}
+use Rattle.nk_plan.proofs.LivelyQueue.{IsLively}
 use Rattle.nk_plan.proofs.Quiz.{asked, asked-append, Asks, asks_more, IsQuizzed, child_quizzed}
 use Rattle.nk_plan.proofs.Still.{none_has, zero_or, unless, prefix_all, cut_stopped, channel_inv, channel_still}
 use Rattle.nk_base.specs.Queue.{has_some}

@@ -1,5 +1,5 @@
 -- What the block of one step takes and sends, and what all blocks of a run take and send together.
-use Rattle.std.proofs.Common.{ℕ, suc, ◌≡◌, ◌+◌, refl, sym, ◌∙◌, ap, subst, Bool, true, false, if◌then◌else◌, List, [], ◌∷◌, ◌++◌, length, drop, arith, append_assoc, length-append}
+use Rattle.std.proofs.Common.{◌≡◌, ◌+◌, refl, sym, ◌∙◌, ap, subst, Bool, true, false, if◌then◌else◌, List, [], ◌∷◌, ◌++◌, length, drop, arith, append_assoc, length-append}
 use Rattle.nk_base.specs.declared.message.MainMsg.{MainMsg}
 use Rattle.nk_base.specs.declared.message.BackMsg.{BackMsg}
 use Rattle.nk_base.specs.declared.message.UpMsg.{UpMsg}
@@ -14,15 +14,15 @@ use Rattle.nk_plan.specs.declared.step.ParentStep.TheVariants as parent
 use Rattle.nk_plan.specs.declared.step.ChildStep.{ChildStep}
 use Rattle.nk_plan.specs.declared.step.ChildStep.TheVariants as child
 use Rattle.nk_plan.specs.Journal.{ups_taken, mains_sent, backs_sent, main_in, back_in, mains_taken, backs_taken}
-use Rattle.nk_plan.specs.Parent.{ParentState, take_up, parent_step, parent_after}
+use Rattle.nk_plan.specs.Parent.{ParentState, parent_step, parent_after}
 use Rattle.nk_plan.specs.Child.{ChildState, with_entry, step_main, step_back, child_step, child_after}
 use Rattle.nk_plan.specs.Run.{parent_block, child_block, parent_blocks, child_blocks}
 use Rattle.nk_plan.specs.Walk.{ParentBlock, ChildBlock, counted}
-use Rattle.nk_plan.proofs.Tools.{keeps_if, append_nil}
+use Rattle.nk_plan.proofs.Tools.{append_nil}
 use Rattle.nk_plan.proofs.ParentLaw.{ups-append, mains-append, backs-append}
 use Rattle.nk_plan.proofs.Grows as child_side
 use Rattle.nk_plan.proofs.Grows.{Grown, Grows, plain_grows, main_grows, back_grows, noted_grows}
-use Rattle.nk_plan.proofs.World.{Adds, fetch_step_adds, up_journal, rest_after}
+use Rattle.nk_plan.proofs.World.{fetch_step_adds, up_journal, rest_after}
 use Rattle.nk_plan.proofs.More.{all_up, all_mains, all_backs, all_main, all_back, all_ups}
 
 -- The parent

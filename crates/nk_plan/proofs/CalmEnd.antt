@@ -27,13 +27,14 @@ use Rattle.nk_plan.proofs.Tools.{keeps_if, among_more}
 use Rattle.nk_plan.specs.Failure.{kept_status}
 use Rattle.nk_plan.specs.declared.event.ChildEvent.{ChildEvent}
 use Rattle.nk_plan.specs.declared.event.ChildEvent.TheVariants.{Start as StartEvent, Stop as StopEvent, Bytes as BytesEvent, Redirect1 as Redirect1Event, Redirect3 as Redirect3Event, Cancel as CancelEvent}
-use Rattle.nk_plan.proofs.ChildLaw.{Around, Holds, AtHop, InBody, AtEnd}
-use Rattle.nk_plan.proofs.Merge.{redirects, final_there, start_redirects, broken_is, backs_is}
+use Rattle.nk_plan.proofs.Order.{Around, Holds, AtHop, InBody, AtEnd}
+use Rattle.nk_plan.proofs.Merge.{final_there, start_redirects}
+use Rattle.nk_plan.proofs.Taking.{redirects, broken_is, backs_is}
 use Rattle.nk_plan.proofs.World.{Joined, joined, run_trace}
 use Rattle.std.proofs.lemmas.Bool.Decides.{eqb_tells}
 use Rattle.nk_plan.specs.declared.plan.Verdict.{Verdict as Answer}
 use Rattle.nk_plan.specs.Calm.{IsCalm, last_hop, opening_failure, veto_of, data_of, stop_of, calm_body, calm_started, calm_from, calm_trace, start_reaction, data_reaction, finish_of, sooner}
-use Rattle.nk_plan.proofs.Course.{Course, Quiet, Going, Pending, Kept, Closing, Odd, RightMain, RightMains, RightBacks, odd, Caused, RunOk, NoFail, Silent, NoCancelUp, data_count, HeadIs, events_bytes, backs_bytes}
+use Rattle.nk_plan.proofs.CourseState.{Course, Quiet, Going, Pending, Kept, Closing, Odd, RightMain, RightMains, RightBacks, odd, Caused, RunOk, NoFail, Silent, NoCancelUp, data_count, HeadIs, events_bytes, backs_bytes}
 use Rattle.nk_plan.proofs.CalmRun.{CalmRun, channel_calm, quiet_after, backs_bytes-append}
 use Rattle.nk_base.specs.declared.message.Entry.{Entry}
 use Rattle.nk_plan.specs.declared.plan.Reaction.{Reaction}

@@ -1,10 +1,9 @@
 -- Worked rows: what a calm plan's channel is shown when it is played is its calm trace. Each row is a computation.
-use Rattle.std.proofs.Common.{ℕ, ◌≡◌, refl, List, [], ◌∷◌, ◌++◌}
+use Rattle.std.proofs.Common.{◌≡◌, refl, List, [], ◌∷◌}
 use Rattle.nk_base.specs.declared.message.Entry.TheVariants as shown
 use Rattle.nk_base.specs.Status.{ok, redirect_loop}
 use Rattle.nk_plan.specs.declared.plan.StartLane.{StartLane}
 use Rattle.nk_plan.specs.declared.plan.StartLane.TheVariants as lane
-use Rattle.nk_plan.specs.declared.plan.ChannelPlan.{ChannelPlan}
 use Rattle.nk_plan.specs.declared.plan.Hop.{Hop}
 use Rattle.nk_plan.specs.declared.plan.Hop.TheVariants as hop
 use Rattle.nk_plan.specs.declared.plan.Finish.TheVariants as finish

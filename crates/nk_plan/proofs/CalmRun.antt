@@ -14,15 +14,18 @@ use Rattle.nk_plan.specs.Channel.{channel_after}
 use Rattle.nk_plan.specs.declared.step.Step.{Step}
 use Rattle.nk_plan.proofs.Tools.{append_nil, keeps_if}
 use Rattle.nk_plan.proofs.ParentLaw.{lane_law}
-use Rattle.nk_plan.proofs.ChildLaw.{Around, Holds, strip, AtHop, InBody, AtEnd, Legal}
-use Rattle.nk_plan.proofs.Merge.{Within, main_events, Whole, Cut, Inv, hold_is, backs_is, broken_is, run_inv, start_inv, fed, prefix_of_take, within_before}
+use Rattle.nk_plan.proofs.Order.{Around, Holds, strip, AtHop, InBody, AtEnd, Legal}
+use Rattle.nk_plan.proofs.Merge.{run_inv, start_inv, fed, prefix_of_take, within_before}
+use Rattle.nk_plan.proofs.Taking.{Within, main_events, Whole, Cut, Inv, hold_is, backs_is, broken_is}
 use Rattle.nk_plan.proofs.World.{Joined, joined, rest_after, main_says, back_says}
-use Rattle.nk_plan.proofs.Lively.{IsLively, child_lively}
+use Rattle.nk_plan.proofs.Lively.{child_lively}
+use Rattle.nk_plan.proofs.LivelyQueue.{IsLively}
 use Rattle.nk_base.specs.declared.status.Status.{Status}
 use Rattle.nk_plan.specs.declared.event.ChildEvent.TheVariants.{Start as StartEvent, Bytes as BytesEvent, Stop as StopEvent, Redirect1 as Redirect1Event, Redirect3 as Redirect3Event, Cancel as CancelEvent}
 use Rattle.nk_plan.specs.Calm.{IsCalm}
 use Rattle.nk_plan.specs.declared.plan.StartLane.{StartLane}
-use Rattle.nk_plan.proofs.Course.{Quiet, Calmly, RightMain, RightMains, RightBack, RightBacks, OkOrFails, events_bytes, backs_bytes, back_bytes, append_bytes, acted_calm, verdict_calm, finished_calm, begun_calm, release_calm, main_calm, back_calm}
+use Rattle.nk_plan.proofs.Course.{OkOrFails, append_bytes, acted_calm, verdict_calm, finished_calm, begun_calm, release_calm, main_calm, back_calm}
+use Rattle.nk_plan.proofs.CourseState.{Quiet, Calmly, RightMain, RightMains, RightBack, RightBacks, events_bytes, backs_bytes, back_bytes}
 use Rattle.nk_plan.proofs.Grows.{Grows, NoLane, plain_grows, main_grows, back_grows, noted_grows, step_grows, Extends, backs-append}
 use Rattle.nk_plan.specs.declared.step.ChildStep.TheVariants as child
 use Rattle.nk_base.specs.declared.message.BackMsg.TheVariants as back

@@ -1,20 +1,16 @@
 -- A channel whose plan is closed does nothing: no step of it is enabled.
-use Rattle.std.proofs.Common.{ℕ, ◌≡◌, refl, sym, ◌∙◌, ap, subst, Bool, true, false, if◌then◌else◌, nat_lt, List, [], ◌∷◌, slice_get, slice_index, replicate, Option, Some, None}
-use Rattle.nk_base.specs.declared.status.Target.{Target}
-use Rattle.nk_base.specs.Queue.{target_number, completed}
+use Rattle.std.proofs.Common.{ℕ, ◌≡◌, refl, sym, ◌∙◌, ap, Bool, true, false, if◌then◌else◌, nat_lt, List, [], ◌∷◌, slice_index, replicate}
+use Rattle.nk_base.specs.Queue.{target_number}
 use Rattle.nk_plan.specs.declared.plan.ChannelPlan.{ChannelPlan}
 use Rattle.nk_plan.specs.declared.plan.StartLane.{StartLane}
 use Rattle.nk_plan.specs.declared.plan.StartLane.TheVariants as lane
 use Rattle.nk_plan.specs.declared.journal.ParentEntry.{ParentEntry}
 use Rattle.nk_plan.specs.declared.journal.ChildEntry.{ChildEntry}
-use Rattle.nk_plan.specs.declared.journal.ChildEntry.TheVariants as child_entry
 use Rattle.nk_plan.specs.declared.step.Step.{Step}
 use Rattle.nk_plan.specs.declared.step.Step.TheVariants.{Act, Verdict, Fetch, Up, Forward, Main, Back, Release, Begin, Finish, Read}
-use Rattle.nk_plan.specs.declared.step.ChildStep.TheVariants as child
-use Rattle.nk_plan.specs.Child.{ChildState, new_hold, new_child, step_act, step_release, child_step}
+use Rattle.nk_plan.specs.Child.{ChildState, new_hold, new_child, step_release}
 use Rattle.nk_plan.specs.Channel.{Channel, channel_step, new_channel, channel_after}
 use Rattle.nk_plan.specs.Run.{trace_of, Run}
-use Rattle.nk_plan.proofs.Tools.{keeps_if}
 use Rattle.nk_plan.proofs.Lively.{none_posted}
 use Rattle.nk_plan.proofs.Orders.{run_is_order}
 

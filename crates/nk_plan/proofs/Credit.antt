@@ -23,7 +23,8 @@ use Rattle.nk_plan.specs.declared.event.ChildEvent.TheVariants.{Start, Bytes, St
 use Rattle.nk_plan.specs.Event.{class_of}
 use Rattle.nk_plan.proofs.Tools.{keeps_if, append_nil, among_more, among_last}
 use Rattle.nk_plan.specs.Lanes.{Among}
-use Rattle.nk_plan.proofs.Lively.{IsLively, forced_by, child_lively, offered_lively, cleared_lively, no_flush, nothing_runs, runs_elsewhere}
+use Rattle.nk_plan.proofs.Lively.{child_lively, offered_lively, no_flush, nothing_runs, runs_elsewhere}
+use Rattle.nk_plan.proofs.LivelyQueue.{IsLively, forced_by, cleared_lively}
 use Rattle.nk_plan.proofs.Grows.{Grows, NoLane, plain_grows, main_grows, back_grows, noted_grows, step_grows, Extends, mains-append, backs-append}
 use Rattle.nk_plan.proofs.World.{main_says, back_says}
 use Rattle.nk_base.specs.declared.status.Target.TheVariants as target

@@ -1,7 +1,7 @@
 -- A parent's blocks can be placed exactly where their entries can, one by one: the first entry of a block takes as the block
 -- does, and the others take nothing.
-use Rattle.std.proofs.Common.{ℕ, suc, zero, ◌≡◌, ◌+◌, ◌-◌, ◌≤◌, refl, sym, ◌∙◌, ap, subst, Bool, true, false, ◌&&◌, List, [], ◌∷◌, ◌++◌, length, arith}
-use Rattle.nk_plan.specs.Walk.{ParentBlock, ChildBlock, Walk, Turn, Parent, Forward, Child, counted, may, may_forward, none_left, is_zero, Places, CanPlace}
+use Rattle.std.proofs.Common.{ℕ, suc, zero, ◌≡◌, ◌+◌, ◌-◌, ◌≤◌, refl, subst, Bool, true, false, List, [], ◌∷◌, ◌++◌, length, arith}
+use Rattle.nk_plan.specs.Walk.{ParentBlock, ChildBlock, Turn, Parent, Forward, Child, counted, may, may_forward, Places, CanPlace}
 use Rattle.nk_plan.proofs.Placing.{after, before}
 use Rattle.nk_plan.proofs.More.{standing}
 

@@ -1,5 +1,5 @@
 -- The walk over the blocks of two runs and the walk over the entries of their journals, one by one, come to the same.
-use Rattle.std.proofs.Common.{ℕ, suc, ◌≡◌, ◌+◌, ◌↔◌, refl, sym, ◌∙◌, ap, subst, Bool, true, false, List, [], ◌∷◌, ◌++◌, length, drop, arith, append_assoc, length-append}
+use Rattle.std.proofs.Common.{ℕ, suc, ◌≡◌, ◌+◌, ◌↔◌, refl, sym, ◌∙◌, ap, subst, Bool, true, false, List, [], ◌∷◌, ◌++◌, length, arith, append_assoc, length-append}
 use Rattle.nk_base.specs.declared.message.UpMsg.{UpMsg}
 use Rattle.nk_base.specs.Queue.{has_some}
 use Rattle.nk_plan.specs.declared.plan.ChannelPlan.{ChannelPlan}
@@ -9,15 +9,14 @@ use Rattle.nk_plan.specs.declared.journal.ChildEntry.{ChildEntry}
 use Rattle.nk_plan.specs.declared.step.ParentStep.{ParentStep}
 use Rattle.nk_plan.specs.declared.step.ChildStep.{ChildStep}
 use Rattle.nk_plan.specs.Journal.{ups_taken, mains_sent, backs_sent, main_in, back_in, mains_taken, backs_taken}
-use Rattle.nk_plan.specs.Parent.{ParentState, parent_step, parent_after}
-use Rattle.nk_plan.specs.Child.{ChildState, child_step, child_after}
+use Rattle.nk_plan.specs.Parent.{ParentState, parent_after}
+use Rattle.nk_plan.specs.Child.{ChildState, child_after}
 use Rattle.nk_plan.specs.Run.{parent_block, child_block, parent_blocks, child_blocks}
 use Rattle.nk_plan.specs.Telling.{Telling, new_telling, sends_at, telling_after, sends_from, parent_entry_block, parent_entries, child_entry_block, child_entries}
 use Rattle.nk_plan.specs.Walk.{ParentBlock, ChildBlock, walk_start, CanPlace, places_all}
 use Rattle.nk_plan.proofs.Tools.{append_nil}
-use Rattle.nk_plan.proofs.World.{rest_after}
-use Rattle.nk_plan.proofs.Blocks.{ParentEnters, ParentTakesFirst, parent_enters, ChildEnters, ChildTakesFirst, child_enters, parent_block_at, child_block_at, parent_block_is, child_block_is}
-use Rattle.nk_plan.proofs.Tells.{telling_at, Tells, IsTelling, child_tells}
+use Rattle.nk_plan.proofs.Blocks.{ParentTakesFirst, parent_enters, ChildTakesFirst, child_enters, parent_block_at, child_block_at, parent_block_is, child_block_is}
+use Rattle.nk_plan.proofs.Tells.{telling_at, child_tells}
 use Rattle.nk_plan.proofs.Placing.{walk_exact}
 use Rattle.nk_plan.proofs.CutChild.{ChildPiece, Nothing, Parts, total, child_whole, quiet_child, child_parts, child_wholes, all_child_parts, child_cut}
 use Rattle.nk_plan.proofs.CutParent.{Sends, ParentPiece, total_mains, total_backs, parent_whole, quiet_parent, parent_parts, parent_wholes, all_parent_parts, parent_cut}

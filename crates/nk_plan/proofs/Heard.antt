@@ -21,8 +21,9 @@ use Rattle.nk_plan.proofs.Tools.{keeps_if, append_nil, among_more, among_last}
 use Rattle.nk_plan.specs.Failure.{merged}
 use Rattle.nk_plan.specs.declared.event.ChildEvent.{ChildEvent}
 use Rattle.nk_plan.specs.declared.event.ChildEvent.TheVariants.{Start as StartEvent, Stop as StopEvent, Bytes as BytesEvent, Redirect1 as Redirect1Event, Redirect3 as Redirect3Event, Cancel as CancelEvent}
-use Rattle.nk_plan.proofs.ChildLaw.{strip, stops, strip-append}
-use Rattle.nk_plan.proofs.Merge.{main_events, main_events-append, back_events-append}
+use Rattle.nk_plan.proofs.Order.{strip, stops, strip-append}
+use Rattle.nk_plan.proofs.Merge.{main_events-append}
+use Rattle.nk_plan.proofs.Taking.{main_events, back_events-append}
 use Rattle.nk_plan.proofs.Told.{suspends_after, suspends_append}
 use Rattle.nk_plan.proofs.World.{Adds, fetch_step_adds, up_journal}
 use Rattle.nk_base.specs.declared.message.UpMsg.TheVariants as up

@@ -31,7 +31,8 @@ use Rattle.std.proofs.lemmas.Bool.{eqb-true}
 use Rattle.std.proofs.lemmas.Bool.Decides.{eqb_tells}
 use Rattle.nk_plan.specs.declared.plan.Verdict.{Verdict as Answer}
 use Rattle.nk_plan.specs.Calm.{IsCalm, allowed, last_hop, opening_failure, veto_of}
-use Rattle.nk_plan.proofs.Course.{Course, Quiet, Going, Pending, Kept, Closing, Odd, RightMains, RightBacks, RightUp, RightUps, OkOrFails, odd, odd_body, has_any}
+use Rattle.nk_plan.proofs.Course.{OkOrFails}
+use Rattle.nk_plan.proofs.CourseState.{Course, Quiet, Going, Pending, Kept, Closing, Odd, RightMains, RightBacks, RightUp, RightUps, odd, odd_body, has_any}
 use Rattle.nk_plan.proofs.CalmRun.{CalmRun, channel_calm}
 use Rattle.nk_base.specs.declared.message.Entry.{Entry}
 use Rattle.nk_base.specs.declared.message.UpMsg.TheVariants as up

@@ -6,6 +6,7 @@ pub mod CalmRun
 pub mod ChildLaw
 pub mod Closed
 pub mod Course
+pub mod CourseState
 pub mod Credit
 pub mod CutChild
 pub mod CutParent
@@ -15,9 +16,11 @@ pub mod Grows
 pub mod Heard
 pub mod Led
 pub mod Lively
+pub mod LivelyQueue
 pub mod LogRows
 pub mod Merge
 pub mod More
+pub mod Order
 pub mod Ordered
 pub mod Orders
 pub mod Paid
@@ -29,11 +32,11 @@ pub mod Proved
 pub mod Quiz
 pub mod Refusals
 pub mod Replay
-pub mod Says
 pub mod Sent
 pub mod Settled
 pub mod StartHop
 pub mod Still
+pub mod Taking
 pub mod Tally
 pub mod Targets
 pub mod Tells

@@ -1,18 +1,16 @@
 -- Worked rows: the journals of a played channel, entry by entry. Each row is a computation.
-use Rattle.std.proofs.Common.{ℕ, ◌≡◌, refl, List, [], ◌∷◌}
+use Rattle.std.proofs.Common.{◌≡◌, refl, [], ◌∷◌}
 use Rattle.nk_base.specs.declared.status.Target.TheVariants as target
 use Rattle.nk_base.specs.declared.status.RetargetError.TheVariants as error
 use Rattle.nk_base.specs.declared.message.MainMsg.TheVariants as main
 use Rattle.nk_base.specs.declared.message.BackMsg.TheVariants as back
 use Rattle.nk_base.specs.declared.message.UpMsg.TheVariants as up
 use Rattle.nk_base.specs.Status.{ok}
-use Rattle.nk_plan.specs.declared.plan.ChannelPlan.{ChannelPlan}
 use Rattle.nk_plan.specs.declared.plan.StartLane.TheVariants as lane
 use Rattle.nk_plan.specs.declared.plan.Act.TheVariants as act
 use Rattle.nk_plan.specs.declared.journal.ParentEntry.TheVariants as parent
 use Rattle.nk_plan.specs.declared.journal.ChildEntry.TheVariants as child
-use Rattle.nk_plan.specs.declared.step.Step.{Step}
-use Rattle.nk_plan.specs.declared.step.Step.TheVariants.{Act, Verdict, Fetch, Up, Forward, Main, Back, Release, Begin, Finish}
+use Rattle.nk_plan.specs.declared.step.Step.TheVariants.{Act, Fetch, Up, Forward, Main, Back, Release, Begin, Finish}
 use Rattle.nk_plan.specs.Channel.{Channel}
 use Rattle.nk_plan.specs.Telling.{new_telling, sends_from}
 use Rattle.nk_plan.proofs.Played.{plan_of, head, response, after, reset, ab, cd, played}

@@ -1,5 +1,5 @@
 -- Every order of steps of a whole channel is a run: its steps, side by side, can be placed in the order in which they came.
-use Rattle.std.proofs.Common.{ℕ, zero, suc, ◌≡◌, ◌+◌, ◌<◌, ◌≤◌, refl, sym, ◌∙◌, ap, subst, Bool, true, false, not, ◌||◌, if◌then◌else◌, nat_lt, List, [], ◌∷◌, ◌++◌, length, drop, take, arith}
+use Rattle.std.proofs.Common.{ℕ, zero, suc, ◌≡◌, ◌+◌, ◌<◌, ◌≤◌, refl, sym, ◌∙◌, ap, subst, Bool, true, false, nat_lt, List, [], ◌∷◌, length, drop, take, arith}
 use borrow.Author.Tests.{ltb-true, lt-ltb}
 use Rattle.nk_base.specs.declared.message.MainMsg.{MainMsg}
 use Rattle.nk_base.specs.declared.message.BackMsg.{BackMsg}
@@ -23,7 +23,7 @@ use Rattle.nk_plan.proofs.Tools.{keeps_if}
 use Rattle.nk_plan.proofs.Grows.{NoLane}
 use Rattle.nk_plan.proofs.World.{Joined, joined}
 use Rattle.nk_plan.proofs.Replay.{child_replayed}
-use Rattle.nk_plan.proofs.Blocks.{ups_of, mains_of, backs_of, ParentEnters, ChildEnters, parent_enters, child_enters, parent_block_at, child_block_at, parent_block_is, child_block_is, ParentSums, parent_sums, ChildSums, child_sums}
+use Rattle.nk_plan.proofs.Blocks.{ups_of, mains_of, backs_of, parent_enters, child_enters, parent_block_at, child_block_at, parent_block_is, child_block_is, parent_sums, child_sums}
 use Rattle.nk_plan.proofs.More.{parent_more, forward_more_at_end, child_more, all_up, all_mains, all_backs, all_main, all_back, all_ups}
 
 -- the steps of the two sides of a channel, and an order of their blocks

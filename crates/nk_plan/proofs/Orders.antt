@@ -1,5 +1,5 @@
 -- Every run comes from an order of steps of a whole channel: the order in which its blocks are placed.
-use Rattle.std.proofs.Common.{ℕ, zero, suc, ◌≡◌, ◌+◌, ◌-◌, ◌<◌, ◌≤◌, refl, sym, ◌∙◌, ap, subst, Bool, true, false, not, ◌&&◌, ◌||◌, if◌then◌else◌, nat_lt, List, [], ◌∷◌, ◌++◌, length, drop, take, arith, append_assoc, length-append, add-zero}
+use Rattle.std.proofs.Common.{ℕ, zero, suc, ◌≡◌, ◌+◌, ◌-◌, ◌<◌, ◌≤◌, refl, sym, ◌∙◌, ap, subst, Bool, true, false, ◌&&◌, if◌then◌else◌, nat_lt, List, [], ◌∷◌, ◌++◌, length, drop, take, arith, append_assoc}
 use Rattle.std.proofs.lemmas.List.{take-append-drop}
 use borrow.Author.Tests.{ltb-true}
 use Rattle.nk_base.specs.declared.message.MainMsg.{MainMsg}
@@ -10,7 +10,7 @@ use Rattle.nk_plan.specs.declared.plan.ChannelPlan.{ChannelPlan}
 use Rattle.nk_plan.specs.declared.journal.ParentEntry.{ParentEntry}
 use Rattle.nk_plan.specs.declared.journal.ChildEntry.{ChildEntry}
 use Rattle.nk_plan.specs.declared.step.Step.{Step}
-use Rattle.nk_plan.specs.declared.step.Step.TheVariants.{Act, Verdict, Fetch, Up, Forward, Main, Back, Release, Begin, Finish, Read}
+use Rattle.nk_plan.specs.declared.step.Step.TheVariants.{Act, Verdict, Fetch, Up, Forward, Main, Back, Release, Begin, Finish}
 use Rattle.nk_plan.specs.declared.step.ParentStep.{ParentStep}
 use Rattle.nk_plan.specs.declared.step.ParentStep.TheVariants as parent
 use Rattle.nk_plan.specs.declared.step.ChildStep.{ChildStep}
@@ -18,17 +18,17 @@ use Rattle.nk_plan.specs.declared.step.ChildStep.TheVariants as child
 use Rattle.nk_plan.specs.Journal.{ups_taken, mains_sent, backs_sent, mains_taken, backs_taken}
 use Rattle.nk_plan.specs.Parent.{ParentState, new_parent, parent_step, parent_after}
 use Rattle.nk_plan.specs.Child.{ChildState, new_child, child_step, child_after}
-use Rattle.nk_plan.specs.Channel.{Channel, main_lane, back_lane, up_lane, up_step, main_step, back_step, forward_step, channel_step, new_channel, channel_after}
+use Rattle.nk_plan.specs.Channel.{Channel, main_lane, back_lane, up_lane, up_step, main_step, back_step, channel_step, new_channel, channel_after}
 use Rattle.nk_plan.specs.Run.{parent_blocks, child_blocks, sends_of, Run}
-use Rattle.nk_plan.specs.Walk.{ParentBlock, ChildBlock, Walk, Turn, Parent, Child, walk_start, counted, may, none_left, is_zero, is_done, can, placed, Places, CanPlace}
+use Rattle.nk_plan.specs.Walk.{ParentBlock, ChildBlock, Walk, Turn, Parent, Child, walk_start, counted, may, placed, Places}
 use Rattle.nk_plan.specs.Walk.{Forward as Onward}
 use Rattle.nk_plan.specs.Lanes.{IsPrefix}
-use Rattle.nk_plan.proofs.Tools.{keeps_if, append_nil}
+use Rattle.nk_plan.proofs.Tools.{append_nil}
 use Rattle.nk_plan.proofs.ParentLaw.{ups-append, mains-append, backs-append}
 use Rattle.nk_plan.proofs.Grows as child_side
 use Rattle.nk_plan.proofs.Replay.{child_replayed}
 use Rattle.nk_plan.proofs.Merge.{prefix_of_take}
-use Rattle.nk_plan.proofs.Blocks.{ups_of, mains_of, backs_of, ParentEnters, ChildEnters, parent_enters, child_enters, parent_block_at, child_block_at, ParentCounts, parent_counts, ChildCounts, child_counts}
+use Rattle.nk_plan.proofs.Blocks.{mains_of, backs_of, parent_enters, child_enters, parent_block_at, child_block_at, parent_counts, child_counts}
 use Rattle.nk_plan.proofs.Ordered.{takes_up_is, takes_main_is, takes_back_is}
 use Rattle.nk_plan.proofs.More.{standing}
 

@@ -1,8 +1,8 @@
 -- The walk: what can be placed may be placed, whatever the order, so the greedy walk places all that some order does.
-use Rattle.std.proofs.Common.{ℕ, suc, zero, ◌≡◌, ◌+◌, ◌-◌, ◌≤◌, ◌↔◌, refl, sym, subst, Bool, true, false, ◌&&◌, ◌⊎◌, inl, inr, if◌then◌else◌, nat_lt, List, [], ◌∷◌, length, arith}
+use Rattle.std.proofs.Common.{ℕ, suc, zero, ◌≡◌, ◌+◌, ◌-◌, ◌≤◌, ◌↔◌, refl, sym, subst, Bool, true, false, ◌&&◌, ◌⊎◌, inl, inr, nat_lt, List, [], ◌∷◌, length, arith}
 use Rattle.std.proofs.lemmas.Bool.Decides.{nat_tests}
 use Rattle.nk_plan.proofs.Tools.{keeps_if}
-use Rattle.nk_plan.specs.Walk.{ParentBlock, ChildBlock, Walk, Turn, Parent, Forward, Child, may, may_parent, may_child, may_forward, can, rest, next_up, next_mains, next_backs, next_main, next_back, next_ups, placed, none_left, is_zero, is_done, Places, CanPlace, items, greedy, places_all}
+use Rattle.nk_plan.specs.Walk.{ParentBlock, ChildBlock, Walk, Turn, Parent, Forward, Child, may, may_parent, may_child, may_forward, can, rest, placed, none_left, is_zero, is_done, Places, CanPlace, items, greedy, places_all}
 
 both : (a b : Bool) → a ≡ true → b ≡ true → (a && b) ≡ true
 both true b p q = q

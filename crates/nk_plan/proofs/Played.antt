@@ -3,7 +3,6 @@
 use Rattle.std.proofs.Common.{ℕ, zero, suc, true, false, List, [], ◌∷◌, ◌++◌}
 use Rattle.nk_base.specs.declared.status.Status.{Status}
 use Rattle.nk_base.specs.declared.status.Target.TheVariants as target
-use Rattle.nk_base.specs.declared.field.Field.{Field}
 use Rattle.nk_base.specs.declared.field.Head.{Head}
 use Rattle.nk_base.specs.declared.message.Entry.{Entry}
 use Rattle.nk_plan.specs.declared.plan.ChannelPlan.{ChannelPlan}

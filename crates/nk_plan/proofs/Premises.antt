@@ -14,7 +14,6 @@ use Rattle.nk_plan.specs.declared.step.Step.{Step}
 use Rattle.nk_plan.specs.declared.step.Phase.TheVariants.{Body}
 use Rattle.nk_base.specs.declared.field.Field.{Field}
 use Rattle.nk_plan.specs.Accepted.{Accepted, IsGoodHop, IsGoodVerdict, IsGoodFinish, IsGoodAct, IsGoodControl, IsGoodReaction}
-use Rattle.nk_plan.specs.declared.plan.Act.{Act}
 use Rattle.nk_plan.specs.Plan.{hop_at, pieces_at}
 use Rattle.nk_plan.specs.Parent.{ParentState}
 use Rattle.nk_plan.specs.Channel.{Channel}

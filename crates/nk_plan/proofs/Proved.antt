@@ -1,5 +1,5 @@
 -- The laws, put together from the lemmas of the other files.
-use Rattle.std.proofs.Common.{ℕ, ◌≡◌, ◌+◌, ◌≤◌, ◌↔◌, refl, sym, ◌∙◌, ap, subst, Bool, true, false, if◌then◌else◌, List, [], ◌∷◌, length, take, Option, Some, None}
+use Rattle.std.proofs.Common.{ℕ, ◌≡◌, refl, sym, ◌∙◌, ap, subst, Bool, true, false, if◌then◌else◌, List, Some}
 use Rattle.nk_plan.specs.declared.plan.ChannelPlan.{ChannelPlan}
 use Rattle.nk_plan.specs.declared.journal.ParentEntry.{ParentEntry}
 use Rattle.nk_plan.specs.declared.journal.ChildEntry.{ChildEntry}
@@ -7,16 +7,13 @@ use Rattle.nk_plan.specs.declared.step.Step.{Step}
 use Rattle.nk_plan.specs.declared.step.ChildStep.{ChildStep}
 use Rattle.nk_plan.specs.declared.ends.Ending.{Ending}
 use Rattle.nk_plan.specs.declared.ends.Ending.TheVariants as ending
-use Rattle.nk_plan.specs.Accepted.{Accepted}
 use Rattle.nk_plan.specs.Trace.{SeqTrace}
-use Rattle.nk_plan.specs.Journal.{first, final, cut, opening, NoDataBehind, count_of, has_open, is_suspend, is_resume, is_finish, ups_taken, mains_sent, backs_sent}
-use Rattle.nk_plan.specs.Lanes.{LaneLaw, MainsStart, BacksStart}
+use Rattle.nk_plan.specs.Journal.{first, final, cut, opening, ups_taken, mains_sent, backs_sent}
+use Rattle.nk_plan.specs.Lanes.{MainsStart, BacksStart}
 use Rattle.nk_plan.specs.Child.{ChildState, child_after}
 use Rattle.nk_plan.specs.Channel.{Channel, channel_after}
-use Rattle.nk_plan.specs.Enabled.{IsSettled}
-use Rattle.nk_plan.specs.Run.{IsParentRun, IsChildRun, state_of, trace_of, Down, Run}
-use Rattle.nk_plan.specs.Ending.{ending_by, ending_of, state_ending, ends_in_stop}
-use Rattle.nk_plan.specs.Calm.{IsCalm, calm_trace}
+use Rattle.nk_plan.specs.Run.{state_of, trace_of, Down, Run}
+use Rattle.nk_plan.specs.Ending.{ending_by, ending_of}
 use Rattle.nk_plan.specs.Laws.{LanesLaw, MergeLaw, RunLaw, HopLaw, FailureLaw, CountsLaw, SendsLaw, StateLaw, OrderRunsLaw, RunOrderLaw, EndingToldLaw, EndingLaw, CalmLaw, ClosedLaw}
 use Rattle.nk_plan.proofs.Premises.{plan_ok, ranges_ok, ends_by_failure}
 use Rattle.nk_plan.proofs.Sent.{lane_law_of}

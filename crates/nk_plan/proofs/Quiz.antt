@@ -23,7 +23,8 @@ use Rattle.nk_plan.proofs.Tools.{keeps_if, append_nil, among_more, among_last}
 use Rattle.nk_plan.specs.Lanes.{Among}
 use Rattle.nk_plan.proofs.ChildLaw.{run_waiting, idle_empty, none_waits}
 use Rattle.nk_plan.proofs.Grows.{Grows, NoLane, plain_grows, main_grows, back_grows, noted_grows}
-use Rattle.nk_plan.proofs.Merge.{main_events, main_events-append}
+use Rattle.nk_plan.proofs.Merge.{main_events-append}
+use Rattle.nk_plan.proofs.Taking.{main_events}
 use Rattle.nk_base.specs.declared.status.Target.TheVariants as target
 use Rattle.nk_base.specs.declared.message.MainMsg.TheVariants as main
 use Rattle.nk_base.specs.declared.message.BackMsg.TheVariants as back

@@ -27,9 +27,10 @@ use Rattle.nk_plan.specs.declared.ends.Ending.{Ending}
 use Rattle.nk_plan.specs.declared.ends.Ending.TheVariants.{Stopped, Suspended, Unopened, Going}
 use Rattle.nk_plan.specs.Ending.{state_ending, ends_in_stop, comes_at}
 use Rattle.nk_plan.proofs.ParentLaw.{Keeps, InBody, parent_keeps}
-use Rattle.nk_plan.proofs.Merge.{Whole, hold_is, mains_is, whole_unbroken}
+use Rattle.nk_plan.proofs.Taking.{Whole, hold_is, mains_is, whole_unbroken}
 use Rattle.nk_plan.proofs.World.{Joined, joined, rest_after, run_trace}
-use Rattle.nk_plan.proofs.Lively.{IsLively, FlushedBy, FlushOk, PostedOk, child_lively, nothing_waits}
+use Rattle.nk_plan.proofs.Lively.{child_lively, nothing_waits}
+use Rattle.nk_plan.proofs.LivelyQueue.{IsLively, FlushedBy, FlushOk, PostedOk}
 use Rattle.nk_plan.proofs.Heard.{Hears, parent_hears}
 use Rattle.nk_plan.proofs.Still.{none_has, zero_or, by_bool, unless, prefix_all, cut_stopped, channel_inv, due_none, reports_none, all_moved}
 use Rattle.nk_plan.proofs.Asking.{still}

@@ -1,5 +1,5 @@
 -- Once a start has run, and no break came before it, the final hop is the hop of the start that the parent sent.
-use Rattle.std.proofs.Common.{ℕ, zero, suc, ◌≡◌, ◌+◌, refl, sym, ◌∙◌, ap, subst, Bool, true, false, List, [], ◌∷◌, ◌++◌, take, length, Option, Some, None, ◌⊎◌, inl, inr}
+use Rattle.std.proofs.Common.{ℕ, zero, suc, ◌≡◌, ◌+◌, refl, sym, ◌∙◌, subst, Bool, true, false, List, [], ◌∷◌, ◌++◌, take, length, Option, Some, None, inl, inr}
 use Rattle.nk_base.specs.declared.status.Status.{Status}
 use Rattle.nk_base.specs.declared.field.Head.{Head}
 use Rattle.nk_base.specs.declared.message.MainMsg.{MainMsg}
@@ -22,8 +22,9 @@ use Rattle.nk_plan.proofs.Tools.{append_nil}
 use Rattle.nk_plan.proofs.Premises.{PlanOk}
 use Rattle.nk_plan.proofs.Sent.{Begun, SentLaw}
 use Rattle.nk_plan.proofs.ParentLaw.{lane_law}
-use Rattle.nk_plan.proofs.ChildLaw.{AtHop, InBody, AtEnd, Around, Holds, opening_at}
-use Rattle.nk_plan.proofs.Merge.{redirects, final_there, start_redirects, Inv, fed, start_inv, run_inv, prefix_of_take}
+use Rattle.nk_plan.proofs.Order.{AtHop, InBody, AtEnd, Around, Holds, opening_at}
+use Rattle.nk_plan.proofs.Merge.{final_there, start_redirects, fed, start_inv, run_inv, prefix_of_take}
+use Rattle.nk_plan.proofs.Taking.{redirects, Inv}
 
 mains_start-append : (f : ℕ) (xs ys : List MainMsg) → MainsStart f xs → MainsStart f ys → MainsStart f (xs ++ ys)
 mains_start-append f [] ys a b = b

@@ -18,10 +18,12 @@ use Rattle.nk_plan.specs.declared.step.Step.TheVariants.{Act, Fetch, Up, Forward
 use Rattle.nk_plan.specs.Enabled.{phase_enabled, body_enabled}
 use Rattle.nk_plan.proofs.Tools.{append_nil}
 use Rattle.nk_plan.proofs.ParentLaw.{lane_law}
-use Rattle.nk_plan.proofs.ChildLaw.{Around, Holds, strip, stops}
-use Rattle.nk_plan.proofs.Merge.{Within, main_events, Due, Whole, Cut, Inv, hold_is, mains_is, backs_is, run_inv, start_inv, fed, whole_unbroken, prefix_of_take}
+use Rattle.nk_plan.proofs.Order.{Around, Holds, strip, stops}
+use Rattle.nk_plan.proofs.Merge.{run_inv, start_inv, fed, prefix_of_take}
+use Rattle.nk_plan.proofs.Taking.{Within, main_events, Due, Whole, Cut, Inv, hold_is, mains_is, backs_is, whole_unbroken}
 use Rattle.nk_plan.proofs.World.{Joined, joined, rest_after}
-use Rattle.nk_plan.proofs.Lively.{IsLively, child_lively, nothing_waits}
+use Rattle.nk_plan.proofs.Lively.{child_lively, nothing_waits}
+use Rattle.nk_plan.proofs.LivelyQueue.{IsLively}
 use Rattle.nk_plan.proofs.Told.{IsTold, child_told, suspends_after}
 use Rattle.nk_plan.proofs.Heard.{Hears, parent_hears}
 use Rattle.nk_base.specs.declared.message.UpMsg.{UpMsg}

@@ -1,11 +1,10 @@
 -- Worked rows: what the listener of a played channel is shown. Each row is a computation, on both start lanes where its
 -- steps allow it.
-use Rattle.std.proofs.Common.{ℕ, ◌≡◌, refl, List, [], ◌∷◌, ◌++◌}
+use Rattle.std.proofs.Common.{◌≡◌, refl, List, [], ◌∷◌, ◌++◌}
 use Rattle.nk_base.specs.declared.status.Target.TheVariants as target
 use Rattle.nk_base.specs.declared.field.Field.{Field}
 use Rattle.nk_base.specs.declared.message.Entry.TheVariants as shown
 use Rattle.nk_base.specs.Status.{ok, redirect_loop}
-use Rattle.nk_plan.specs.declared.plan.ChannelPlan.{ChannelPlan}
 use Rattle.nk_plan.specs.declared.plan.StartLane.{StartLane}
 use Rattle.nk_plan.specs.declared.plan.StartLane.TheVariants as lane
 use Rattle.nk_plan.specs.declared.plan.Hop.TheVariants as hop
@@ -17,8 +16,7 @@ use Rattle.nk_plan.specs.declared.ends.Ending.TheVariants as ending
 use Rattle.nk_plan.specs.declared.step.Step.{Step}
 use Rattle.nk_plan.specs.declared.step.Step.TheVariants.{Act, Verdict, Fetch, Up, Forward, Main, Back, Release, Begin, Finish}
 use Rattle.nk_plan.specs.Ending.{state_ending}
-use Rattle.nk_plan.specs.Channel.{new_channel}
-use Rattle.nk_plan.proofs.Played.{plan_of, head, response, allow, redirects, after, failure, aborted, refused, reset, ab, cd, hello, made, rounds, played, shown_by}
+use Rattle.nk_plan.proofs.Played.{plan_of, head, response, allow, redirects, after, failure, aborted, refused, reset, ab, cd, hello, played, shown_by}
 
 one_response : (l : StartLane) → shown_by (plan_of (response 200 (hello ∷ []) ∷ []) [] [] l) ≡ shown.Start 200 ok ∷ shown.Bytes 0 hello ∷ shown.Stop ok [] ∷ []
 one_response lane.Main = refl

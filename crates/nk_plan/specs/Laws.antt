@@ -1,6 +1,6 @@
 -- The laws over the definitions, each the contract of a public function. None has a premise but that the plan is one that
 -- `ChannelPlan::new` accepts, where it needs that.
-use Rattle.std.specs.Prelude.{ℕ, ◌≡◌, ◌+◌, ◌↔◌, Bool, true, false, List, [], Option, Some, None}
+use Rattle.std.specs.Prelude.{ℕ, ◌≡◌, ◌+◌, ◌↔◌, true, false, List, [], Some, None}
 use Rattle.nk_plan.specs.declared.plan.ChannelPlan.{ChannelPlan}
 use Rattle.nk_plan.specs.declared.journal.ParentEntry.{ParentEntry}
 use Rattle.nk_plan.specs.declared.journal.ChildEntry.{ChildEntry}
@@ -16,7 +16,7 @@ use Rattle.nk_plan.specs.Parent.{parent_after}
 use Rattle.nk_plan.specs.Child.{child_after}
 use Rattle.nk_plan.specs.Channel.{channel_after}
 use Rattle.nk_plan.specs.Enabled.{IsSettled}
-use Rattle.nk_plan.specs.Run.{IsParentRun, IsChildRun, state_of, parent_state_of, trace_of, sends_of, Down, parent_blocks, child_blocks, Run}
+use Rattle.nk_plan.specs.Run.{IsParentRun, IsChildRun, state_of, parent_state_of, trace_of, Down, parent_blocks, child_blocks, Run}
 use Rattle.nk_plan.specs.Ending.{ending_of, state_ending, ends_in_stop}
 use Rattle.nk_plan.specs.Calm.{IsCalm, calm_trace}
 use Rattle.nk_plan.specs.Walk.{Walk, Turn, walk_start, can, placed, is_done, CanPlace, places_all}
