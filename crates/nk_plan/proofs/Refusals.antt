@@ -1,5 +1,5 @@
 -- The first refusal, found by going through the rows.
-use Rattle.std.proofs.Common.{◌≡◌, ℕ, zero, suc, ◌+◌, ◌<◌, ◌≤◌, ◌⊎◌, List, [], length, get_or, take, All, IsSomeAnd, Option, Some, None, ap, subst, arith, inl, inr, sym, Result, Ok, Err, IsErrAnd, IfErr}
+use Rattle.std.proofs.Common.{◌≡◌, ℕ, zero, suc, length, IsSomeAnd, Option, Some, None, ap, subst, arith, inl, inr, sym, Result, Ok, Err, IsErrAnd, IfErr}
 use Rattle.std.proofs.lemmas.Bool.{cases_lt}
 use Rattle.nk_plan.specs.declared.plan.ChannelPlan.{ChannelPlan}
 use Rattle.nk_plan.specs.declared.plan.PlanError.{PlanError}

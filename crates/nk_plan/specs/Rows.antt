@@ -1,5 +1,5 @@
 -- How the parts of a plan are looked at: row by row, in the order of the refusals. This project's own.
-use Rattle.std.specs.Prelude.{ℕ, zero, suc, ◌≡◌, ◌+◌, ◌-◌, ◌<◌, ◌≤◌, length, take, All, IsSomeAnd}
+use Rattle.std.specs.Prelude.{ℕ, zero, suc, ◌-◌, ◌<◌, ◌≤◌, length, take, All, IsSomeAnd}
 use Rattle.nk_plan.specs.declared.plan.ChannelPlan.{ChannelPlan}
 use Rattle.nk_plan.specs.declared.plan.PlanError.{PlanError}
 use Rattle.nk_plan.specs.Accepted.{IsRedirect, IsGoodHop, last_of, body_of, body_size, IsGoodListener, IsGoodReaction, IsGoodControl, IsGoodWindow, Refuses, row_of}

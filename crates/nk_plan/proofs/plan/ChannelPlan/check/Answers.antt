@@ -1,4 +1,3 @@
-use Rattle.std.proofs.Common.{arith}
 use Rattle.nk_plan.proofs.Refusals.{passes_joined, passes_none, refused_answer, last_refused}
 use Rattle.nk_plan.proofs.plan.ChannelPlan.check.Goals as goal
 

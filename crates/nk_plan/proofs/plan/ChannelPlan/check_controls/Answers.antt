@@ -1,5 +1,4 @@
 use Rattle.std.proofs.Common.{◌≤◌, length, All, refl, subst}
-use Rattle.nk_plan.specs.declared.plan.Control.{Control}
 use Rattle.nk_plan.specs.Accepted.{IsGoodControl}
 use Rattle.nk_plan.proofs.Refusals.{passes_one}
 use Rattle.nk_plan.proofs.plan.ChannelPlan.check_controls.Goals as goal

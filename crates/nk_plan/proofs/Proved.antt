@@ -1,0 +1,127 @@
+-- The laws, put together from the lemmas of the other files.
+use Rattle.std.proofs.Common.{ℕ, ◌≡◌, refl, sym, ◌∙◌, ap, subst, Bool, true, false, if◌then◌else◌, List, Some}
+use Rattle.nk_plan.specs.declared.plan.ChannelPlan.{ChannelPlan}
+use Rattle.nk_plan.specs.declared.journal.ParentEntry.{ParentEntry}
+use Rattle.nk_plan.specs.declared.journal.ChildEntry.{ChildEntry}
+use Rattle.nk_plan.specs.declared.step.Step.{Step}
+use Rattle.nk_plan.specs.declared.step.ChildStep.{ChildStep}
+use Rattle.nk_plan.specs.declared.ends.Ending.{Ending}
+use Rattle.nk_plan.specs.declared.ends.Ending.TheVariants as ending
+use Rattle.nk_plan.specs.Trace.{SeqTrace}
+use Rattle.nk_plan.specs.Journal.{first, final, cut, opening, ups_taken, mains_sent, backs_sent}
+use Rattle.nk_plan.specs.Lanes.{MainsStart, BacksStart}
+use Rattle.nk_plan.specs.Child.{ChildState, child_after}
+use Rattle.nk_plan.specs.Channel.{Channel, channel_after}
+use Rattle.nk_plan.specs.Run.{state_of, trace_of, Down, Run}
+use Rattle.nk_plan.specs.Ending.{ending_by, ending_of}
+use Rattle.nk_plan.specs.Laws.{LanesLaw, MergeLaw, RunLaw, HopLaw, FailureLaw, CountsLaw, SendsLaw, StateLaw, OrderRunsLaw, RunOrderLaw, EndingToldLaw, EndingLaw, CalmLaw, ClosedLaw}
+use Rattle.nk_plan.proofs.Premises.{plan_ok, ranges_ok, ends_by_failure}
+use Rattle.nk_plan.proofs.Sent.{lane_law_of}
+use Rattle.nk_plan.proofs.ParentLaw.{lane_law}
+use Rattle.nk_plan.proofs.Merge.{merge}
+use Rattle.nk_plan.proofs.StartHop.{start_hop}
+use Rattle.nk_plan.proofs.Tells.{child_tells}
+use Rattle.nk_plan.proofs.Tally.{child_tally, journal_ending}
+use Rattle.nk_plan.proofs.Replay.{child_replayed, determined}
+use Rattle.nk_plan.proofs.World.{Joined, joined}
+use Rattle.nk_plan.proofs.Ordered.{order_is_run}
+use Rattle.nk_plan.proofs.Orders.{run_is_order}
+use Rattle.nk_plan.proofs.Settled.{ending_told}
+use Rattle.nk_plan.proofs.CalmEnd.{calm_law_holds}
+use Rattle.nk_plan.proofs.Closed.{closed_run}
+
+pub lanes : LanesLaw
+lanes c p a (steps, e) = lane_law_of c (ups_taken p) (mains_sent p) (backs_sent p) (rw e at (lane_law c steps (plan_ok c a)))
+
+-- what a child shows is told by its journal
+shown : (c : ChannelPlan) (steps : List ChildStep) (j : List ChildEntry) → (child_after c steps).journal ≡ j → trace_of c j ≡ (child_after c steps).trace
+shown c steps j e = ap (λ (s : ChildState). s.trace) (child_replayed c steps j e)
+
+pub merge_down : MergeLaw
+merge_down c p j n a r (steps, e) d =
+    let d1 : Down c p (child_after c steps).journal n = subst (λ t. Down c p t n) (sym e) d in
+    let t : SeqTrace c (final (child_after c steps).journal) (first (child_after c steps).journal) (cut (child_after c steps).journal) (child_after c steps).trace = merge c p n steps (plan_ok c a) r d1 in
+    subst (λ t. SeqTrace c (final j) (first j) (cut j) t) (sym (shown c steps j e))
+    (subst (λ k. SeqTrace c (final k) (first k) (cut k) (child_after c steps).trace) e t)
+
+run_down : (c : ChannelPlan) (p : List ParentEntry) (j : List ChildEntry) (n : ℕ) → Run c p j n → Down c p j n
+run_down c p j n r = (r.mains, r.forwards, r.backs)
+
+pub merge_run : RunLaw
+merge_run c p j n a r = merge_down c p j n a (r.parent_steps, r.parent_run) (r.child_steps, r.child_run) (run_down c p j n r)
+
+pub hops : HopLaw
+hops c p j n a r (steps, e) d o =
+    let d1 : Down c p (child_after c steps).journal n = subst (λ t. Down c p t n) (sym e) d in
+    let o1 : opening (child_after c steps).journal ≡ Some false = ap opening e ∙ o in
+    subst (λ t. MainsStart (final t) (mains_sent p) × BacksStart (final t) (backs_sent p)) e (start_hop c p n steps (plan_ok c a) r d1 o1)
+
+pub failures : FailureLaw
+failures c steps = let t = child_tells c steps in (sym t.first_is, t.drops, sym t.final_is)
+
+pub counts : CountsLaw
+counts c steps = let t = child_tally c steps in (sym t.open_is, t.suspends_is, sym t.finished_is)
+
+pub sends : SendsLaw
+sends c steps = sym (child_tells c steps).sends_are
+
+pub states : StateLaw
+states c = let d = determined c in (d.0, d.1)
+
+pub orders_run : OrderRunsLaw
+orders_run c steps = order_is_run c steps
+
+pub runs_order : RunOrderLaw
+runs_order c p j n r = run_is_order c p j n r
+
+-- The ending
+
+-- the ending by a channel's journal is the one by its child's own fields
+told : (c : ChannelPlan) (steps : List Step) → ending_of c (channel_after c steps).child.journal ≡ journal_ending c (channel_after c steps).child
+told c steps =
+    let w = channel_after c steps in
+    let j : Joined c w = joined c steps in
+    let e : state_of c w.child.journal ≡ w.child = child_replayed c j.child_steps w.child.journal (ap (λ (s : ChildState). s.journal) j.child_is) ∙ j.child_is in
+    ap (λ (s : ChildState). ending_by c w.child.journal s.trace s) e
+
+pub endings_told : EndingToldLaw
+endings_told c steps a = let k = ending_told c steps (plan_ok c a) in (told c steps ∙ k.0, k.1)
+
+by_bool : {P : Type 0} (b : Bool) → (b ≡ true → P) → (b ≡ false → P) → P
+by_bool true p q = p refl
+by_bool false p q = q refl
+
+unopened : (b : Bool) (x : Ending) → b ≡ true → (if b then ending.Unopened else x) ≡ ending.Unopened
+unopened true x e = refl
+unopened false x e = cc
+
+pub endings : EndingLaw
+endings c steps a q g =
+    let g1 : journal_ending c (channel_after c steps).child ≡ ending.Going = sym (told c steps) ∙ g in
+    by_bool c.closed
+    (λ e. let x : journal_ending c (channel_after c steps).child ≡ ending.Unopened = unopened c.closed _ e in let y : ending.Unopened ≡ ending.Going = sym x ∙ g1 in absurd (cc))
+    (λ e. (ending_told c steps (plan_ok c a)).3 (ranges_ok c a) e q g1)
+
+-- Calm plans
+
+pub calm : CalmLaw
+calm c p j n a i r =
+    let o = run_is_order c p j n r in
+    let w : Channel = channel_after c o.0 in
+    let k : Joined c w = joined c o.0 in
+    let e : state_of c j ≡ w.child = child_replayed c k.child_steps j (ap (λ (s : ChildState). s.journal) k.child_is ∙ o.2) ∙ k.child_is in
+    let same : ending_of c j ≡ journal_ending c w.child = ap (λ t. ending_of c t) (sym o.2) ∙ told c o.0 in
+    by_bool c.closed
+    (λ h.
+    let x : journal_ending c w.child ≡ ending.Unopened = unopened c.closed _ h in (
+      λ s. (let y : ending.Unopened ≡ ending.Stopped = sym x ∙ (sym same ∙ s) in absurd (cc)),
+      λ s. (let y : ending.Unopened ≡ ending.Suspended = sym x ∙ (sym same ∙ s) in absurd (cc)),
+    ))
+    (λ h.
+    let l = calm_law_holds c o.0 (plan_ok c a) (ranges_ok c a) i (ends_by_failure c a) h in (
+      λ s. ap (λ (y : ChildState). y.trace) e ∙ l.0 (sym same ∙ s),
+      λ s. l.1 (sym same ∙ s),
+    ))
+
+pub closed : ClosedLaw
+closed = closed_run
