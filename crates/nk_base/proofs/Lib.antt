@@ -1,2 +1,3 @@
 mod HeadFields
+pub mod Released
 pub mod Targets

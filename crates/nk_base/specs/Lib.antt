@@ -2,6 +2,7 @@ pub mod Fields
 pub mod Growing
 pub mod HeadAnswers
 pub mod Heads
+pub mod Hold
 pub mod Outs
 pub mod Pieces
 pub mod Queue

@@ -1,6 +1,6 @@
 // The messages of the three lanes, and what a listener sees. Hops are numbered from 0.
 
-ghost use Rattle.std.specs.Prelude.{◌≡◌, ◌↔◌, IsTrue, IfOk};
+ghost use Rattle.std.specs.Prelude.{◌≡◌, ◌↔◌, IsTrue, IfOk, Ok};
 
 use crate::field::{Fields, Head};
 use crate::out::Ranged;
@@ -147,26 +147,26 @@ impl MainMsg {
             (
                 MainMsg::Start { hop, status, head },
                 MainMsg::Start {
-                    hop: hop2,
-                    status: status2,
-                    head: head2,
+                    hop: other_hop,
+                    status: other_status,
+                    head: other_head,
                 },
-            ) => hop == hop2 && status == status2 && head.same(head2),
+            ) => hop == other_hop && status == other_status && head.same(other_head),
             (
                 MainMsg::FailedOpen { hop, status },
                 MainMsg::FailedOpen {
-                    hop: hop2,
-                    status: status2,
+                    hop: other_hop,
+                    status: other_status,
                 },
-            ) => hop == hop2 && status == status2,
+            ) => hop == other_hop && status == other_status,
             (
                 MainMsg::Redirect1 { hop, code },
                 MainMsg::Redirect1 {
-                    hop: hop2,
-                    code: code2,
+                    hop: other_hop,
+                    code: other_code,
                 },
-            ) => hop == hop2 && code == code2,
-            (MainMsg::Redirect3 { hop }, MainMsg::Redirect3 { hop: hop2 }) => hop == hop2,
+            ) => hop == other_hop && code == other_code,
+            (MainMsg::Redirect3 { hop }, MainMsg::Redirect3 { hop: other_hop }) => hop == other_hop,
             _ => false,
         }
     }
@@ -224,12 +224,12 @@ impl BackMsg {
             (
                 BackMsg::Start { hop, status, head },
                 BackMsg::Start {
-                    hop: hop2,
-                    status: status2,
-                    head: head2,
+                    hop: other_hop,
+                    status: other_status,
+                    head: other_head,
                 },
-            ) => hop == hop2 && status == status2 && head.same(head2),
-            (BackMsg::StartSent { hop }, BackMsg::StartSent { hop: hop2 }) => hop == hop2,
+            ) => hop == other_hop && status == other_status && head.same(other_head),
+            (BackMsg::StartSent { hop }, BackMsg::StartSent { hop: other_hop }) => hop == other_hop,
             (
                 BackMsg::Bytes {
                     hop,
@@ -238,12 +238,15 @@ impl BackMsg {
                     piece,
                 },
                 BackMsg::Bytes {
-                    hop: hop2,
-                    status: status2,
-                    offset: offset2,
-                    piece: piece2,
+                    hop: other_hop,
+                    status: other_status,
+                    offset: other_offset,
+                    piece: other_piece,
                 },
-            ) => hop == hop2 && status == status2 && offset == offset2 && piece.same(piece2),
+            ) => hop == other_hop
+                && status == other_status
+                && offset == other_offset
+                && piece.same(other_piece),
             (
                 BackMsg::Stop {
                     hop,
@@ -251,20 +254,20 @@ impl BackMsg {
                     trailers,
                 },
                 BackMsg::Stop {
-                    hop: hop2,
-                    status: status2,
-                    trailers: trailers2,
+                    hop: other_hop,
+                    status: other_status,
+                    trailers: other_trailers,
                 },
-            ) => hop == hop2 && status == status2 && trailers.same(trailers2),
+            ) => hop == other_hop && status == other_status && trailers.same(other_trailers),
             _ => false,
         }
     }
 }
 
 impl UpMsg {
-    /// An equal message.
+    /// An equal message. It takes no memory.
     pub fn share(&self) -> Result<UpMsg, Memory>
-        ensures { IfOk result (λ r. r ≡ self.now) }
+        ensures { result ≡ Ok self.now }
     {
         Ok(*self)
     }
@@ -312,24 +315,24 @@ impl Entry {
             (
                 Entry::Start { code, status },
                 Entry::Start {
-                    code: code2,
-                    status: status2,
+                    code: other_code,
+                    status: other_status,
                 },
-            ) => code == code2 && status == status2,
+            ) => code == other_code && status == other_status,
             (
                 Entry::Bytes { offset, piece },
                 Entry::Bytes {
-                    offset: offset2,
-                    piece: piece2,
+                    offset: other_offset,
+                    piece: other_piece,
                 },
-            ) => offset == offset2 && piece.same(piece2),
+            ) => offset == other_offset && piece.same(other_piece),
             (
                 Entry::Stop { status, trailers },
                 Entry::Stop {
-                    status: status2,
-                    trailers: trailers2,
+                    status: other_status,
+                    trailers: other_trailers,
                 },
-            ) => status == status2 && trailers.same(trailers2),
+            ) => status == other_status && trailers.same(other_trailers),
             _ => false,
         }
     }
