@@ -4,6 +4,7 @@
 #![tactic(auto)]
 
 mod answer;
+pub mod laws;
 mod queue;
 
 pub use answer::{Offer, Taken};

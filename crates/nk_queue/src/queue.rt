@@ -56,15 +56,15 @@ impl<E: Classed> Model for EventQueue<E> {
     }) };
 }
 
-// Where the posted number of a target stands.
-fn number(t: Target) -> usize
-    requires { IsTarget t }
+// Where the posted number of a target stands: behind the last one for a worker that is none.
+pub(crate) fn number(t: Target) -> usize
     ensures number { result ≡ target_number t }
-    ensures small { result < 18 }
+    ensures small { IsTarget t → result < 18 }
 {
     match t {
         Target::Main => 0,
-        Target::Worker(w) => w as usize,
+        Target::Worker(w) if 1 <= w && w <= 16 => w as usize,
+        Target::Worker(_) => 18,
         Target::Back => 17,
     }
 }
@@ -80,7 +80,7 @@ fn post(posted: &mut [usize; 18], t: Target)
 }
 
 // The target of an event of this class.
-fn target_of(data_target: Target, class: Class) -> Target
+pub(crate) fn target_of(data_target: Target, class: Class) -> Target
     ensures { result ≡ target_in data_target class }
 {
     match class {
