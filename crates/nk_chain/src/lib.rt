@@ -4,7 +4,7 @@
 //! frames of its streams in.
 #![tactic(auto)]
 
-ghost use Rattle.std.specs.Prelude.{◌≡◌, ◌+◌, ◌-◌, ◌<◌, ◌≤◌, [], ◌∷◌, ◌++◌, Some, None, OnOk, OnErr};
+ghost use Rattle.std.specs.Prelude.{◌≡◌, ◌+◌, ◌-◌, ◌<◌, ◌≤◌, [], ◌∷◌, ◌++◌, ◌↔◌, length, IsTrue, Some, None, OnOk, OnErr};
 ghost use Rattle.std.specs.Borrow.{sem};
 ghost use Rattle.nk_chain.specs.Chain.{first_place, item_at, place_after, IsLive, PlacesDiffer, PopsFront};
 
@@ -74,6 +74,20 @@ impl<T> Chain<T> {
         Ok(())
     }
 
+    /// The number of items.
+    pub fn len(&self) -> usize
+        ensures { result ≡ length self.now.items }
+    {
+        self.nodes.len()
+    }
+
+    /// Whether there is no item.
+    pub fn is_empty(&self) -> bool
+        ensures { IsTrue result ↔ (self.now.items ≡ []) }
+    {
+        self.first.is_none()
+    }
+
     /// Puts an item behind the last one.
     pub fn push_back(&mut self, item: T) -> Place
         requires { 0 < self.old.spare }
@@ -137,6 +151,19 @@ impl<T> Chain<T> {
         self.first = after;
         self.spare += 1;
         Some(item)
+    }
+
+    /// Drops all items, and keeps their room.
+    pub fn clear(&mut self)
+    where
+        T: Drop,
+        ensures items { self.new.items ≡ [] }
+        ensures spare { self.new.spare ≡ self.old.spare + length self.old.items }
+    {
+        self.spare += self.nodes.len();
+        self.nodes.clear();
+        self.first = None;
+        self.last = None;
     }
 
     /// The place of the first item, `None` exactly where there is none.
