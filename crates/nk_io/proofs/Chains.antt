@@ -1,12 +1,12 @@
 -- What several calls in a row say of the bytes that a source gave and a sink got.
-use Rattle.std.proofs.Common.{◌≡◌, ℕ, ◌+◌, ◌-◌, ◌<◌, ◌≤◌, Option, None, Some, List, [], ◌∷◌, ◌++◌, length, take, drop, refl, ap, sym, ◌∙◌, append_assoc, append-nil, suc, arith, length-append, length-drop, get_or, Bool, false, ◌==◌, ◌||◌}
+use Rattle.std.proofs.Common.{◌≡◌, ℕ, ◌+◌, ◌-◌, ◌<◌, ◌≤◌, Option, None, Some, List, [], ◌∷◌, ◌++◌, length, take, drop, refl, ap, sym, ◌∙◌, append_assoc, suc, arith, length-append, length-drop, get_or, Bool, false, ◌==◌, ◌||◌}
 use Rattle.std.proofs.lemmas.List.{take-append-drop, length-take-le}
 use Rattle.std.proofs.Math.Seq.{take-length, take-append_seam}
-use Rattle.std.specs.Io.KnownBytes.{Consumes, Keeps, IsAtEnd}
+use Rattle.std.specs.Io.KnownBytes.{Consumes}
 use Rattle.std.specs.List.{list_any}
 use Rattle.std.proofs.lemmas.Bool.Decides.{nat_tests}
 use Rattle.nk_io.specs.Got.{Gains, GainsPart}
-use Rattle.nk_io.specs.Given.{GivesAll, GivesCount, GivesAtMost, FitsIn, Exceeds}
+use Rattle.nk_io.specs.Given.{GivesCount, GivesAtMost}
 
 -- two gains are one
 pub Gains-append : (a b c : Option (List ℕ)) (xs ys : List ℕ) → Gains a b xs → Gains b c ys → Gains a c (xs ++ ys)
@@ -25,22 +25,6 @@ Consumes-append None b c xs ys first then = tt
 Consumes-append (Some x) None c xs ys first then = absurd first
 Consumes-append (Some x) (Some y) None xs ys first then = absurd then
 Consumes-append (Some x) (Some y) (Some z) xs ys first then = first ∙ ap (λ w. xs ++ w) then ∙ sym (append_assoc xs ys z)
-
--- what is kept is still consumed so far
-pub Consumes-keep : (a b c : Option (List ℕ)) (xs : List ℕ) → Consumes a b xs → Keeps b c → Consumes a c xs
-Consumes-keep None b c xs first kept = tt
-Consumes-keep (Some x) None c xs first kept = absurd first
-Consumes-keep (Some x) (Some y) None xs first kept = absurd kept
-Consumes-keep (Some x) (Some y) (Some z) xs first kept = first ∙ ap (λ w. xs ++ w) (sym kept)
-
--- bytes given up to the end are all that was left
-pub GivesAll-end : (a b c : Option (List ℕ)) (xs : List ℕ) → Consumes a b xs → IsAtEnd b → Keeps b c → GivesAll a c xs
-GivesAll-end None b c xs first end kept = tt
-GivesAll-end (Some x) None c xs first end kept = absurd first
-GivesAll-end (Some x) (Some y) None xs first end kept = absurd kept
-GivesAll-end (Some x) (Some y) (Some z) xs first end kept =
-    let whole : x ≡ xs = first ∙ ap (λ w. xs ++ w) end ∙ append-nil xs in
-    (sym whole, ap Some (kept ∙ end))
 
 -- the bytes so far and the next ones
 pub GivesCount-next : (a b c : Option (List ℕ)) (xs buffer : List ℕ) (n total : ℕ) → Consumes a b xs
@@ -64,18 +48,6 @@ GivesAtMost-next a b c xs buffer n limit first next within sum = (
 pub Consumes-next : (a b c : Option (List ℕ)) (xs ys both : List ℕ) → Consumes a b xs → Consumes b c ys
     → both ≡ xs ++ ys → Consumes a c both
 Consumes-next a b c xs ys both first next e = rw e (Consumes-append a b c xs ys first next)
-
--- where more than the limit was given, what was left does not fit
-pub too-large : (a c : Option (List ℕ)) (limit : ℕ) → GivesCount a c (limit + 1) → FitsIn limit a → ⊥
-too-large None c limit given fits = fits
-too-large (Some x) None limit given fits = absurd given.2
-too-large (Some x) (Some z) limit given fits =
-    omega (arith, fits, given.1, ap length given.2, length-append given.0 z)
-
--- what was given up to the end does not exceed the limit
-pub not-overlong : (a c : Option (List ℕ)) (xs : List ℕ) (limit : ℕ) → GivesAll a c xs → length xs ≤ limit → Exceeds limit a → ⊥
-not-overlong None c xs limit given within over = over
-not-overlong (Some x) c xs limit given within over = omega (arith, within, over, ap length given.0)
 
 -- the next bytes of the rest go to what is done
 pub split-next : (all done rest : List ℕ) (n : ℕ) → all ≡ done ++ rest → all ≡ (done ++ take n rest) ++ take (length rest - n) (drop n rest)
