@@ -1,13 +1,10 @@
-// A library with one function.
+// Where the body of a response comes from: its pieces, one after another, and then its end. It stands in the place of
+// the transaction pump of Firefox's nsHttpChannel; the forms are this project's own.
 #![tactic(auto)]
 
-ghost use Rattle.std.specs.Prelude.{◌≡◌};
-ghost use Rattle.nk_source.specs.Echo.{echo_of};
+mod source;
 
-// The `ensures` clause is the contract: what `echo` returns is `echo_of` of its argument, a definition
-// in `specs/Echo.antt`, which a caller's clause can cite too.
-pub fn echo(x: usize) -> usize
-    ensures { result ≡ echo_of x }
-{
-    x
-}
+pub use source::{Next, ResponseSource};
+
+#[cfg(test)]
+mod tests;
