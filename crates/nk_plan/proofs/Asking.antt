@@ -1,3 +1,4 @@
+-- Where a parent waits for a verdict and no step is enabled, the page has suspended the load or the stop was shown.
 use Rattle.std.proofs.Common.{ℕ, zero, suc, ◌≡◌, ◌<◌, refl, sym, ◌∙◌, ap, subst, List, [], ◌∷◌, ◌++◌, length, true, false, if◌then◌else◌, nat_lt, arith, Option, Some, None, slice_get, ◌==◌, pos, int_lt, ◌⊎◌, inl, inr, is_some}
 use Rattle.nk_base.specs.declared.message.MainMsg.{MainMsg}
 use Rattle.nk_base.specs.declared.message.BackMsg.{BackMsg}
@@ -23,10 +24,10 @@ use Rattle.nk_plan.proofs.Tools.{keeps_if, append_nil, among_more}
 use Rattle.nk_plan.specs.declared.event.ChildEvent.TheVariants.{Redirect1 as Redirect1Event}
 use Rattle.nk_plan.proofs.Merge.{main_events-append}
 use Rattle.nk_plan.proofs.Taking.{main_events, whole_unbroken}
-use Rattle.nk_plan.proofs.World.{Adds, fetch_step_adds, up_journal, Joined, joined}
+use Rattle.nk_plan.proofs.Joined.{Adds, fetch_step_adds, up_journal, Joined, joined}
 use Rattle.nk_plan.proofs.Lively.{child_lively, nothing_waits}
 use Rattle.nk_plan.proofs.LivelyQueue.{IsLively}
-use Rattle.nk_plan.proofs.Quiz.{asked, asked-append, Asks, asks_more, IsQuizzed, child_quizzed}
+use Rattle.nk_plan.proofs.Questions.{asked, asked-append, Asks, asks_more, IsQuizzed, child_quizzed}
 use Rattle.nk_plan.proofs.Still.{none_has, zero_or, unless, prefix_all, cut_stopped, channel_inv, channel_still}
 use Rattle.nk_base.specs.Queue.{has_some}
 use Rattle.std.proofs.lemmas.Bool.{eq-eqb}

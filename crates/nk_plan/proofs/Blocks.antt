@@ -22,7 +22,7 @@ use Rattle.nk_plan.proofs.Tools.{append_nil}
 use Rattle.nk_plan.proofs.ParentLaw.{ups-append, mains-append, backs-append}
 use Rattle.nk_plan.proofs.Grows as child_side
 use Rattle.nk_plan.proofs.Grows.{Grown, Grows, plain_grows, main_grows, back_grows, noted_grows}
-use Rattle.nk_plan.proofs.World.{fetch_step_adds, up_journal, rest_after}
+use Rattle.nk_plan.proofs.Joined.{fetch_step_adds, up_journal, rest_after}
 use Rattle.nk_plan.proofs.More.{all_up, all_mains, all_backs, all_main, all_back, all_ups}
 
 -- The parent

@@ -1,3 +1,4 @@
+-- What a calm load has shown once it has stopped is the calm trace of its plan.
 use Rattle.std.proofs.Common.{ℕ, zero, suc, ◌≡◌, ◌+◌, ◌≤◌, ◌<◌, refl, sym, ◌∙◌, ap, subst, List, [], ◌∷◌, ◌++◌, length, Bool, true, false, if◌then◌else◌, nat_lt, take, arith, append_assoc, Option, Some, None, ◌==◌, zero-add, nat_le, ◌&&◌, ◌⊎◌, inl, inr}
 use Rattle.std.proofs.lemmas.List.{take_all}
 use Rattle.nk_base.specs.declared.message.MainMsg.{MainMsg}
@@ -30,7 +31,7 @@ use Rattle.nk_plan.specs.declared.event.ChildEvent.TheVariants.{Start as StartEv
 use Rattle.nk_plan.proofs.Order.{Around, Holds, AtHop, InBody, AtEnd}
 use Rattle.nk_plan.proofs.Merge.{final_there, start_redirects}
 use Rattle.nk_plan.proofs.Taking.{redirects, broken_is, backs_is}
-use Rattle.nk_plan.proofs.World.{Joined, joined, run_trace}
+use Rattle.nk_plan.proofs.Joined.{Joined, joined, run_trace}
 use Rattle.std.proofs.lemmas.Bool.Decides.{eqb_tells}
 use Rattle.nk_plan.specs.declared.plan.Verdict.{Verdict as Answer}
 use Rattle.nk_plan.specs.Calm.{IsCalm, last_hop, opening_failure, veto_of, data_of, stop_of, calm_body, calm_started, calm_from, calm_trace, start_reaction, data_reaction, finish_of, sooner}

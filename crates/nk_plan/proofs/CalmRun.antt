@@ -1,3 +1,4 @@
+-- The course of a calm load holds along every run of its child.
 use Rattle.std.proofs.Common.{ℕ, ◌≡◌, ◌+◌, refl, sym, ◌∙◌, ap, subst, List, [], ◌∷◌, ◌++◌, Bool, true, false, inl, inr, arith, add-zero, zero-add, append_assoc}
 use Rattle.nk_base.specs.declared.message.MainMsg.{MainMsg}
 use Rattle.nk_base.specs.declared.message.BackMsg.{BackMsg}
@@ -17,7 +18,7 @@ use Rattle.nk_plan.proofs.ParentLaw.{lane_law}
 use Rattle.nk_plan.proofs.Order.{Around, Holds, strip, AtHop, InBody, AtEnd, Legal}
 use Rattle.nk_plan.proofs.Merge.{run_inv, start_inv, fed, prefix_of_take, within_before}
 use Rattle.nk_plan.proofs.Taking.{Within, main_events, Whole, Cut, Inv, hold_is, backs_is, broken_is}
-use Rattle.nk_plan.proofs.World.{Joined, joined, rest_after, main_says, back_says}
+use Rattle.nk_plan.proofs.Joined.{Joined, joined, rest_after, main_says, back_says}
 use Rattle.nk_plan.proofs.Lively.{child_lively}
 use Rattle.nk_plan.proofs.LivelyQueue.{IsLively}
 use Rattle.nk_base.specs.declared.status.Status.{Status}

@@ -1,5 +1,5 @@
 -- The rows of the child's table keep the order of events, and so does a break.
-use Rattle.std.proofs.Common.{ℕ, suc, ◌≡◌, ◌+◌, refl, sym, ◌∙◌, ap, subst, List, [], ◌∷◌, ◌++◌, length, Bool, true, false, not, ◌&&◌, ◌||◌, Option, Some, None, is_some, ◌⊎◌, inl, inr, if◌then◌else◌, nat_lt, ◌==◌, arith, append_assoc, add_assoc, zero-add, add-zero}
+use Rattle.std.proofs.Common.{ℕ, suc, ◌≡◌, ◌+◌, refl, sym, ◌∙◌, ap, subst, List, [], ◌∷◌, ◌++◌, length, Bool, true, false, not, ◌&&◌, ◌||◌, Option, Some, None, is_some, ◌⊎◌, inl, inr, if◌then◌else◌, nat_lt, ◌==◌, append_assoc, zero-add}
 use Rattle.nk_base.specs.declared.status.Status.{Status}
 use Rattle.nk_base.specs.declared.status.Target.{Target}
 use Rattle.nk_base.specs.declared.status.RetargetError.{RetargetError}
@@ -12,16 +12,16 @@ use Rattle.nk_plan.specs.declared.plan.Reaction.{Reaction}
 use Rattle.nk_plan.specs.declared.plan.Act.{Act}
 use Rattle.nk_plan.specs.declared.journal.ChildEntry.{ChildEntry}
 use Rattle.nk_base.specs.Status.{ok, is_failure}
-use Rattle.nk_plan.specs.Plan.{hop_at, hop_code, hop_pieces, EndsWell, stop_trailers}
-use Rattle.nk_plan.specs.Trace.{SeqTrace, Follows}
+use Rattle.nk_plan.specs.Plan.{hop_at, hop_pieces, EndsWell, stop_trailers}
+use Rattle.nk_plan.specs.Trace.{SeqTrace}
 use Rattle.nk_plan.specs.Failure.{kept_status, merged, failure, or_else}
 use Rattle.nk_plan.specs.Parent.{size_of}
 use Rattle.nk_base.specs.Queue.{Taken, Event, Over, Ended, same_target, is_target, target_in, runs_now, has_some, running_now, appended, completed, cleared, taken}
-use Rattle.nk_plan.specs.Journal.{failure_in, first, is_redirect3, final, opening_in, opening, is_true, cut, main_in, mains_taken, back_in, backs_taken}
+use Rattle.nk_plan.specs.Journal.{failure_in, first, is_redirect3, final, opening_in, is_true, cut, main_in, back_in}
 use Rattle.nk_plan.specs.declared.event.ChildEvent.{ChildEvent}
 use Rattle.nk_plan.specs.declared.event.ChildEvent.TheVariants.{Start, Bytes, Stop, Redirect1, Redirect3, Cancel}
 use Rattle.nk_plan.specs.Event.{class_of}
-use Rattle.nk_plan.specs.Child.{Hold, ChildState, run_bytes, run_event, offer_event, offer_all, with_entry, call_suspend, call_resume, call_cancel, refusal, call_retarget, is_empty, call_break, perform_call, step_verdict, flush_with, step_begin, runs_on, react, react_all, bytes_failure, prepend_cancel, fail_data, finish_event, step_finish}
+use Rattle.nk_plan.specs.Child.{ChildState, run_bytes, run_event, offer_event, offer_all, with_entry, call_suspend, call_resume, call_cancel, refusal, call_retarget, is_empty, call_break, perform_call, step_verdict, flush_with, step_begin, runs_on, react, react_all, bytes_failure, prepend_cancel, fail_data, finish_event, step_finish}
 use Rattle.nk_plan.proofs.Tools.{keeps_if, append_nil}
 use Rattle.nk_base.specs.declared.status.Target.TheVariants as target
 use Rattle.nk_base.specs.declared.message.Entry.TheVariants as shown

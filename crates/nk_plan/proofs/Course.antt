@@ -1,5 +1,5 @@
 -- The rows of the child's table keep the course of a calm load.
-use Rattle.std.proofs.Common.{ℕ, suc, ◌≡◌, ◌+◌, ◌≤◌, refl, sym, ◌∙◌, ap, subst, List, [], ◌∷◌, ◌++◌, length, Bool, true, false, ◌||◌, Option, Some, None, is_some, ◌⊎◌, inl, inr, if◌then◌else◌, nat_lt, slice_get, ◌==◌, arith, add_assoc, zero-add, add-zero}
+use Rattle.std.proofs.Common.{ℕ, suc, ◌≡◌, ◌+◌, refl, sym, ◌∙◌, ap, subst, List, [], ◌∷◌, ◌++◌, length, Bool, true, false, ◌||◌, Option, Some, None, is_some, ◌⊎◌, inl, inr, if◌then◌else◌, nat_lt, slice_get, ◌==◌, arith, add_assoc, zero-add, add-zero}
 use Rattle.nk_base.specs.declared.status.Status.{Status}
 use Rattle.nk_base.specs.declared.status.Target.{Target}
 use Rattle.nk_base.specs.declared.status.RetargetError.{RetargetError}
@@ -11,16 +11,16 @@ use Rattle.nk_plan.specs.declared.plan.ChannelPlan.{ChannelPlan}
 use Rattle.nk_plan.specs.declared.plan.Reaction.{Reaction}
 use Rattle.nk_plan.specs.declared.plan.Control.{Control}
 use Rattle.nk_base.specs.Status.{ok, is_failure}
-use Rattle.nk_plan.specs.Plan.{hop_at, stop_trailers}
+use Rattle.nk_plan.specs.Plan.{stop_trailers}
 use Rattle.nk_plan.proofs.Premises.{EndsByFailure}
 use Rattle.nk_plan.specs.Failure.{kept_status, merged}
 use Rattle.nk_base.specs.Queue.{Taken, Event, Over, Ended, same_target, is_target, target_in, runs_now, has_some, running_now, appended, completed, taken}
 use Rattle.nk_plan.specs.declared.plan.StartLane.{StartLane}
-use Rattle.nk_plan.specs.Child.{main_events_of, note_main, step_main, back_hop, back_events_of, back_events, is_among, hold_back, step_back, of_hop, released_hold, step_release, cancel_messages, ChildState, run_bytes, run_event, offer_event, offer_all, with_entry, call_cancel, refusal, call_retarget, perform_call, perform_control, step_act, step_verdict, flush_with, step_begin, runs_on, react_all, bytes_failure, prepend_cancel, fail_data, finish_event, step_finish, not_of_hop, hop_verdict, verdict_status}
+use Rattle.nk_plan.specs.Child.{main_events_of, note_main, step_main, back_hop, back_events_of, back_events, is_among, hold_back, step_back, of_hop, released_hold, step_release, ChildState, run_bytes, run_event, offer_event, offer_all, with_entry, call_cancel, refusal, call_retarget, perform_call, perform_control, step_act, step_verdict, flush_with, step_begin, runs_on, react_all, bytes_failure, prepend_cancel, fail_data, finish_event, step_finish, not_of_hop, verdict_status}
 use Rattle.nk_plan.specs.declared.event.ChildEvent.{ChildEvent}
 use Rattle.nk_plan.specs.declared.event.ChildEvent.TheVariants.{Start, Bytes, Stop, Redirect1, Redirect3, Cancel}
 use Rattle.nk_plan.specs.Event.{class_of}
-use Rattle.nk_plan.proofs.Tools.{keeps_if, append_nil}
+use Rattle.nk_plan.proofs.Tools.{keeps_if}
 use Rattle.std.proofs.lemmas.Bool.{eqb-true}
 use Rattle.std.proofs.lemmas.Bool.Decides.{eqb_tells}
 use Rattle.nk_plan.specs.Calm.{NeverSuspends, start_reaction}

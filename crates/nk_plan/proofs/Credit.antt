@@ -1,3 +1,4 @@
+-- What a child has acknowledged, what it still holds and what it dropped make up what it was sent.
 use Rattle.std.proofs.Common.{ℕ, suc, ◌≡◌, ◌+◌, refl, sym, ◌∙◌, ap, subst, List, [], ◌∷◌, ◌++◌, length, Bool, true, false, ◌||◌, Option, Some, None, is_some, ◌⊎◌, inl, inr, if◌then◌else◌, nat_lt, nat_le, slice_get, ◌==◌, arith, add_assoc, zero-add, add-zero}
 use Rattle.nk_base.specs.declared.status.Status.{Status}
 use Rattle.nk_base.specs.declared.status.Target.{Target}
@@ -26,7 +27,7 @@ use Rattle.nk_plan.specs.Lanes.{Among}
 use Rattle.nk_plan.proofs.Lively.{child_lively, offered_lively, no_flush, nothing_runs, runs_elsewhere}
 use Rattle.nk_plan.proofs.LivelyQueue.{IsLively, forced_by, cleared_lively}
 use Rattle.nk_plan.proofs.Grows.{Grows, NoLane, plain_grows, main_grows, back_grows, noted_grows, step_grows, Extends, mains-append, backs-append}
-use Rattle.nk_plan.proofs.World.{main_says, back_says}
+use Rattle.nk_plan.proofs.Joined.{main_says, back_says}
 use Rattle.nk_base.specs.declared.status.Target.TheVariants as target
 use Rattle.nk_base.specs.declared.message.MainMsg.TheVariants as main
 use Rattle.nk_base.specs.declared.message.BackMsg.TheVariants as back

@@ -1,3 +1,4 @@
+-- Every step of a child adds to the end of its journal and to the end of what it sent; only a taken message is entered as taken.
 use Rattle.std.proofs.Common.{ℕ, suc, ◌≡◌, refl, sym, ◌∙◌, ap, List, [], ◌∷◌, ◌++◌, length, true, ◌||◌, Option, Some, None, is_some, if◌then◌else◌, nat_le, slice_get, ◌==◌, append_assoc}
 use Rattle.nk_base.specs.declared.status.Status.{Status}
 use Rattle.nk_base.specs.declared.status.Target.{Target}

@@ -1,3 +1,4 @@
+-- What a parent heard from its page: whether it was opened, is suspended, was cancelled or is done.
 use Rattle.std.proofs.Common.{ℕ, ◌≡◌, refl, sym, ◌∙◌, ap, subst, List, [], ◌∷◌, ◌++◌, Bool, true, false, if◌then◌else◌, append_assoc, Option, Some, None, slice_get, ◌==◌, pos, int_lt, ◌⊎◌, inl, inr}
 use Rattle.nk_base.specs.declared.message.MainMsg.{MainMsg}
 use Rattle.nk_base.specs.declared.message.BackMsg.{BackMsg}
@@ -25,7 +26,7 @@ use Rattle.nk_plan.proofs.Order.{strip, stops, strip-append}
 use Rattle.nk_plan.proofs.Merge.{main_events-append}
 use Rattle.nk_plan.proofs.Taking.{main_events, back_events-append}
 use Rattle.nk_plan.proofs.Told.{suspends_after, suspends_append}
-use Rattle.nk_plan.proofs.World.{Adds, fetch_step_adds, up_journal}
+use Rattle.nk_plan.proofs.Joined.{Adds, fetch_step_adds, up_journal}
 use Rattle.nk_base.specs.declared.message.UpMsg.TheVariants as up
 use Rattle.nk_plan.specs.declared.step.ParentStep.TheVariants as parent
 use Rattle.nk_plan.specs.declared.journal.ParentEntry.TheVariants as entry

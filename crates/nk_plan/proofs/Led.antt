@@ -1,3 +1,4 @@
+-- A parent of a calm plan: the redirects that it followed are allowed ones, and its start is the one of the calm trace.
 use Rattle.std.proofs.Common.{ℕ, zero, suc, ◌≡◌, ◌+◌, ◌≤◌, ◌<◌, refl, sym, ◌∙◌, ap, subst, List, [], ◌∷◌, ◌++◌, length, Bool, true, false, if◌then◌else◌, nat_lt, drop, arith, Option, Some, None, slice_get, ◌==◌, pos, int_lt, ◌⊎◌, inl, inr}
 use Rattle.nk_base.specs.declared.message.MainMsg.{MainMsg}
 use Rattle.nk_base.specs.declared.message.BackMsg.{BackMsg}
@@ -26,7 +27,7 @@ use Rattle.nk_plan.proofs.ParentLaw.{mains-append, backs-append, Law, Keeps, par
 use Rattle.nk_plan.proofs.Tools.{keeps_if}
 use Rattle.nk_plan.specs.Failure.{merged, kept_status}
 use Rattle.nk_plan.specs.declared.event.ChildEvent.{ChildEvent}
-use Rattle.nk_plan.proofs.World.{up_journal, Joined, joined, run_trace}
+use Rattle.nk_plan.proofs.Joined.{up_journal, Joined, joined, run_trace}
 use Rattle.std.proofs.lemmas.Bool.{eqb-true}
 use Rattle.std.proofs.lemmas.Bool.Decides.{eqb_tells}
 use Rattle.nk_plan.specs.declared.plan.Verdict.{Verdict as Answer}

@@ -14,6 +14,7 @@ pub mod Entries
 pub mod First
 pub mod Grows
 pub mod Heard
+pub mod Joined
 pub mod Led
 pub mod Lively
 pub mod LivelyQueue
@@ -29,7 +30,7 @@ pub mod Placing
 pub mod Played
 pub mod Premises
 pub mod Proved
-pub mod Quiz
+pub mod Questions
 pub mod Refusals
 pub mod Replay
 pub mod Sent
@@ -43,4 +44,3 @@ pub mod Tells
 pub mod Told
 pub mod Tools
 pub mod TraceRows
-pub mod World

@@ -1,40 +1,18 @@
 -- A queue that is not forgotten: where events wait, something will take them. Each rule of the queue machine keeps it.
-use Rattle.std.proofs.Common.{ℕ, zero, suc, ◌≡◌, ◌+◌, ◌≤◌, refl, sym, ◌∙◌, ap, subst, List, [], ◌∷◌, ◌++◌, length, Bool, true, false, not, ◌&&◌, ◌||◌, Option, Some, None, is_some, ◌⊎◌, inl, inr, if◌then◌else◌, nat_lt, nat_le, slice_get, slice_index, ◌==◌, arith, ◌<◌, ◌-◌, set, replicate}
-use Rattle.nk_base.specs.declared.status.Status.{Status}
+use Rattle.std.proofs.Common.{ℕ, zero, suc, ◌≡◌, ◌+◌, ◌≤◌, refl, ◌∙◌, ap, List, [], ◌∷◌, ◌++◌, length, Bool, true, false, not, ◌&&◌, ◌||◌, Option, Some, None, is_some, ◌⊎◌, inl, inr, if◌then◌else◌, nat_lt, slice_index, ◌==◌, arith, ◌<◌, ◌-◌, set}
 use Rattle.nk_base.specs.declared.status.Target.{Target}
-use Rattle.nk_base.specs.declared.status.RetargetError.{RetargetError}
-use Rattle.nk_base.specs.declared.message.MainMsg.{MainMsg}
-use Rattle.nk_base.specs.declared.message.BackMsg.{BackMsg}
-use Rattle.nk_plan.specs.declared.plan.ChannelPlan.{ChannelPlan}
-use Rattle.nk_plan.specs.declared.plan.Reaction.{Reaction}
-use Rattle.nk_plan.specs.declared.plan.Act.{Act}
-use Rattle.nk_plan.specs.declared.plan.Control.{Control}
 use Rattle.nk_base.specs.Status.{ok}
-use Rattle.nk_plan.proofs.Targets.{same_self, same_is, worker_number}
-use Rattle.nk_plan.proofs.Premises.{RangesOk, ReactionsOk, WorkerOk}
-use Rattle.nk_plan.specs.Failure.{merged}
-use Rattle.nk_base.specs.Queue.{Queue, Taken, Event, Over, Ended, same_target, is_target, target_in, runs_now, is_busy, has_some, running_now, appended, suspended_once, resumed_once, completed, forced_once, unforced, prepended, cleared, retargeted, taken, flush_ended, handed_over, target_number, raised, lowered, posted_first, may_flush}
-use Rattle.nk_plan.specs.declared.plan.StartLane.{StartLane}
-use Rattle.nk_plan.specs.declared.step.ChildStep.{ChildStep}
-use Rattle.nk_plan.specs.Child.{main_events_of, note_main, step_main, back_hop, back_events_of, back_events, is_among, hold_back, step_back, of_hop, released_hold, step_release, child_step, ChildState, run_bytes, run_event, offer_event, offer_all, with_entry, call_suspend, call_resume, call_cancel, refusal, call_retarget, is_empty, call_break, perform_call, perform_control, step_act, step_verdict, flush_with, step_begin, runs_on, react_all, bytes_failure, prepend_cancel, fail_data, end_forced, finish_event, step_finish, child_after}
+use Rattle.nk_plan.proofs.Targets.{same_is, worker_number}
+use Rattle.nk_base.specs.Queue.{Queue, same_target, is_target, target_in, is_busy, has_some, appended, suspended_once, resumed_once, completed, unforced, prepended, cleared, retargeted, flush_ended, handed_over, target_number, raised, lowered, posted_first, may_flush}
+use Rattle.nk_plan.specs.Child.{ChildState}
 use Rattle.nk_plan.specs.declared.event.ChildEvent.{ChildEvent}
 use Rattle.nk_plan.specs.declared.event.ChildEvent.TheVariants.{Start, Bytes, Stop, Redirect1, Redirect3, Cancel}
 use Rattle.nk_plan.specs.Event.{class_of}
-use Rattle.nk_plan.proofs.Tools.{keeps_if}
 use Rattle.std.proofs.lemmas.List.{length-set, get_or-set_same, get_or-set_other, get_or_past}
 use borrow.Author.Tests.{ltb-true}
 use Rattle.std.proofs.lemmas.Bool.{eqb-true, eq-eqb, lt-ltb}
 use Rattle.std.proofs.lemmas.Bool.Decides.{eqb_tells}
-use Rattle.nk_plan.specs.Enabled.{child_enabled}
 use Rattle.nk_base.specs.declared.status.Target.TheVariants as target
-use Rattle.nk_base.specs.declared.message.MainMsg.TheVariants as main
-use Rattle.nk_base.specs.declared.message.BackMsg.TheVariants as back
-use Rattle.nk_base.specs.declared.message.UpMsg.TheVariants as up
-use Rattle.nk_plan.specs.declared.plan.Reaction.TheVariants as reaction
-use Rattle.nk_plan.specs.declared.plan.Act.TheVariants as act
-use Rattle.nk_plan.specs.declared.journal.ChildEntry.TheVariants as child
-use Rattle.nk_plan.specs.declared.plan.StartLane.TheVariants as lane
-use Rattle.nk_plan.specs.declared.step.ChildStep.TheVariants as step
 
 pub same_number : (t u : Target) → same_target t u ≡ true → target_number t ≡ target_number u
 same_number t u e = ap target_number (same_is t u e)

@@ -1,5 +1,5 @@
 -- The merge: what a child has shown, of what it took of a parent's two lanes, is the trace of one sequential channel.
-use Rattle.std.proofs.Common.{ℕ, zero, suc, ◌≡◌, ◌+◌, ◌≤◌, refl, sym, ◌∙◌, ap, subst, List, [], ◌∷◌, ◌++◌, length, Bool, true, false, ◌||◌, Option, Some, None, ◌⊎◌, inl, inr, if◌then◌else◌, nat_le, slice_get, take, ◌==◌, arith, append_assoc, add_assoc, zero-add, add-zero, drop}
+use Rattle.std.proofs.Common.{ℕ, zero, suc, ◌≡◌, ◌+◌, ◌≤◌, refl, sym, ◌∙◌, ap, subst, List, [], ◌∷◌, ◌++◌, length, Bool, true, false, ◌||◌, Option, Some, None, inl, inr, if◌then◌else◌, take, ◌==◌, arith, append_assoc, add_assoc, zero-add, add-zero, drop}
 use Rattle.std.proofs.lemmas.Bool.{eqb-true, eq-eqb}
 use Rattle.nk_base.specs.declared.status.Status.{Status}
 use Rattle.nk_base.specs.declared.field.Head.{Head}
@@ -9,35 +9,31 @@ use Rattle.nk_base.specs.declared.message.UpMsg.{UpMsg}
 use Rattle.nk_plan.specs.declared.plan.ChannelPlan.{ChannelPlan}
 use Rattle.nk_plan.specs.declared.plan.StartLane.{StartLane}
 use Rattle.nk_plan.specs.declared.plan.Hop.{Hop}
-use Rattle.nk_plan.specs.declared.plan.Act.{Act}
-use Rattle.nk_plan.specs.declared.plan.Control.{Control}
 use Rattle.nk_plan.specs.declared.journal.ParentEntry.{ParentEntry}
 use Rattle.nk_plan.specs.declared.journal.ChildEntry.{ChildEntry}
 use Rattle.nk_plan.specs.declared.step.ChildStep.{ChildStep}
 use Rattle.nk_base.specs.Status.{is_failure}
 use Rattle.nk_plan.specs.Plan.{hop_at, hop_code, hop_pieces}
-use Rattle.nk_plan.proofs.Premises.{PlanOk, ActOk}
+use Rattle.nk_plan.proofs.Premises.{PlanOk}
 use Rattle.nk_plan.specs.Trace.{SeqTrace}
-use Rattle.nk_plan.specs.Run.{IsParentRun, IsChildState, Down}
+use Rattle.nk_plan.specs.Run.{IsParentRun, IsChildState}
 use Rattle.nk_plan.specs.Parent.{size_of}
 use Rattle.nk_plan.specs.Journal.{ups_taken, mains_sent, backs_sent, first, final, cut, mains_taken, backs_taken}
 use Rattle.nk_plan.specs.Lanes.{redirects_to, IsHead, piece_messages, question, main_start, back_start, stop_message, StopCauseIf, Unstarted, IsPrefix}
 use Rattle.nk_plan.proofs.Sent.{Begun, SentLaw}
 use Rattle.nk_plan.specs.declared.event.ChildEvent.{ChildEvent}
-use Rattle.nk_plan.specs.Child.{Hold, ChildState, offer_all, with_entry, perform_control, step_act, perform_call, call_break, main_events_of, note_main, step_main, note_report, note_redirect, back_hop, back_events_of, back_events, is_among, keep_back, hold_back, step_back, of_hop, not_of_hop, released_hold, step_release, new_hold, new_child, child_step, child_after, step_verdict}
+use Rattle.nk_plan.specs.Child.{Hold, ChildState, with_entry, main_events_of, step_main, back_hop, back_events, is_among, step_back, of_hop, not_of_hop, released_hold, step_release, new_hold, new_child, child_step, child_after, step_verdict}
 use Rattle.nk_plan.proofs.Tools.{keeps_if, append_nil}
 use Rattle.std.proofs.lemmas.List.{take-append-drop}
 use Rattle.std.proofs.Math.Seq.{drop-length}
 use Rattle.nk_plan.proofs.Grows.{Grows, Extends, step_grows, main_grows, back_grows, noted_grows, mains-append, backs-append}
 use Rattle.nk_plan.proofs.ParentLaw.{lane_law}
-use Rattle.nk_plan.proofs.ChildLaw.{Broken, offered_all_keeps, same_entry, performed_keeps, begun_keeps, finished_keeps, verdict_keeps, broken_keeps, or_false, or_false_right, trace_of}
-use Rattle.nk_plan.proofs.Order.{AtHop, InBody, Legal, strip, NoCancel, stops, Around, Holds, Keeps, strip-append, says_new, or_else_none}
+use Rattle.nk_plan.proofs.ChildLaw.{offered_all_keeps, same_entry, begun_keeps, finished_keeps, verdict_keeps, trace_of}
+use Rattle.nk_plan.proofs.Order.{AtHop, InBody, Legal, strip, stops, Around, Keeps, strip-append}
 use Rattle.nk_base.specs.declared.status.Target.TheVariants as target
 use Rattle.nk_base.specs.declared.message.MainMsg.TheVariants as main
-use Rattle.nk_base.specs.declared.message.BackMsg.TheVariants as back
 use Rattle.nk_plan.specs.declared.plan.StartLane.TheVariants as lane
 use Rattle.nk_plan.specs.declared.plan.Hop.TheVariants as hop
-use Rattle.nk_plan.specs.declared.plan.Act.TheVariants as act
 use Rattle.nk_plan.specs.declared.journal.ChildEntry.TheVariants as child
 use Rattle.nk_plan.specs.declared.step.ChildStep.TheVariants as step
 use Rattle.nk_plan.proofs.Taking.{main_events, redirects, AllOf, Over, ReportsLast, ReportIs, Will, Due, Waits, Whole, Inv, hold_is, mains_is, backs_is, cut_broken, same_order, with_hold, whole_by, inv_by, acted_inv, holds_with, cancel_left, Within, main_taken_inv, main_events-over, no_cancel_backs, back_taken_inv}
@@ -499,8 +495,12 @@ inv_trace c md bd s (inr i) = trace_of c i.around _ _ s i.keeps
 pub prefix_of_take : {A : Type 0} (n : ℕ) (xs ys : List A) → IsPrefix xs (take n ys) → IsPrefix xs ys
 prefix_of_take n xs ys (rest, e) = (rest ++ drop n ys, sym (append_assoc xs rest (drop n ys)) ∙ (ap (λ t. t ++ drop n ys) e ∙ take-append-drop n ys))
 
+-- what was taken of the two lanes
+abbrev pub TakesDown : List ParentEntry → List ChildEntry → ℕ → Type 0
+TakesDown p j n = IsPrefix (mains_taken j) (mains_sent p) × (n ≤ length (backs_sent p)) × IsPrefix (backs_taken j) (take n (backs_sent p))
+
 -- whatever a child took of what a parent sent, it has shown a trace of one sequential channel
-pub merge : (c : ChannelPlan) (p : List ParentEntry) (n : ℕ) (steps : List ChildStep) → PlanOk c → IsParentRun c p → Down c p (child_after c steps).journal n
+pub merge : (c : ChannelPlan) (p : List ParentEntry) (n : ℕ) (steps : List ChildStep) → PlanOk c → IsParentRun c p → TakesDown p (child_after c steps).journal n
     → SeqTrace c (final (child_after c steps).journal) (first (child_after c steps).journal) (cut (child_after c steps).journal) (child_after c steps).trace
 merge c p n steps v (es, e) (m, le, b) =
     let l : SentLaw c (ups_taken p) (mains_sent p) (backs_sent p) = rw e at (lane_law c es v) in
@@ -508,8 +508,8 @@ merge c p n steps v (es, e) (m, le, b) =
     inv_trace c (mains_sent p) (backs_sent p) (child_after c steps)
     (run_inv c (mains_sent p) (backs_sent p) steps v i (m, prefix_of_take n (backs_taken (child_after c steps).journal) (backs_sent p) b))
 
-pub merge_state : (c : ChannelPlan) (p : List ParentEntry) (s : ChildState) (n : ℕ) → PlanOk c → IsParentRun c p → IsChildState c s → Down c p s.journal n
+pub merge_state : (c : ChannelPlan) (p : List ParentEntry) (s : ChildState) (n : ℕ) → PlanOk c → IsParentRun c p → IsChildState c s → TakesDown p s.journal n
     → SeqTrace c (final s.journal) (first s.journal) (cut s.journal) s.trace
 merge_state c p s n v r (steps, e) d =
     subst (λ (x : ChildState). SeqTrace c (final x.journal) (first x.journal) (cut x.journal) x.trace) e
-    (merge c p n steps v r (subst (λ (x : ChildState). Down c p x.journal n) (sym e) d))
+    (merge c p n steps v r (subst (λ (x : ChildState). TakesDown p x.journal n) (sym e) d))

@@ -42,7 +42,6 @@ abbrev pub all_ups : List ChildBlock → ℕ
 all_ups [] = 0
 all_ups (b ∷ bs) = b.ups + all_ups bs
 
-
 may_same : (t : Bool) (a b c d : ℕ) → a ≡ c → b ≡ d → may t a b ≡ true → may t c d ≡ true
 may_same t a b c d e f h = ap (λ x. may t x d) (sym e) ∙ (ap (λ x. may t a x) (sym f) ∙ h)
 

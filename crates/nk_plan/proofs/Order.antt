@@ -1,32 +1,23 @@
 -- The invariant of the merge: a place of the sequential channel, from which the events that wait and those to come may run.
-use Rattle.std.proofs.Common.{ℕ, suc, ◌≡◌, ◌+◌, refl, sym, ◌∙◌, ap, subst, List, [], ◌∷◌, ◌++◌, length, Bool, true, false, not, ◌&&◌, ◌||◌, Option, Some, None, is_some, ◌⊎◌, inl, inr, if◌then◌else◌, nat_lt, ◌==◌, arith, append_assoc, add_assoc, zero-add, add-zero}
+use Rattle.std.proofs.Common.{ℕ, suc, ◌≡◌, ◌+◌, refl, sym, ◌∙◌, ap, List, [], ◌∷◌, ◌++◌, length, Bool, true, false, Option, Some, None, ◌⊎◌, if◌then◌else◌, arith, append_assoc, add_assoc, add-zero}
 use Rattle.nk_base.specs.declared.status.Status.{Status}
 use Rattle.nk_base.specs.declared.status.Target.{Target}
-use Rattle.nk_base.specs.declared.status.RetargetError.{RetargetError}
 use Rattle.nk_base.specs.declared.message.MainMsg.{MainMsg}
 use Rattle.nk_base.specs.declared.message.BackMsg.{BackMsg}
-use Rattle.nk_base.specs.declared.message.UpMsg.{UpMsg}
 use Rattle.nk_base.specs.declared.message.Entry.{Entry}
 use Rattle.nk_plan.specs.declared.plan.ChannelPlan.{ChannelPlan}
-use Rattle.nk_plan.specs.declared.plan.Reaction.{Reaction}
-use Rattle.nk_plan.specs.declared.plan.Act.{Act}
 use Rattle.nk_plan.specs.declared.journal.ChildEntry.{ChildEntry}
 use Rattle.nk_base.specs.Status.{ok, is_failure}
-use Rattle.nk_plan.specs.Plan.{hop_at, hop_code, hop_pieces, EndsWell, stop_trailers}
+use Rattle.nk_plan.specs.Plan.{hop_at, hop_code, hop_pieces, EndsWell}
 use Rattle.nk_plan.specs.Trace.{SeqTrace, Follows}
 use Rattle.nk_plan.specs.Failure.{kept_status, merged, failure, or_else}
 use Rattle.nk_plan.specs.Parent.{size_of}
-use Rattle.nk_base.specs.Queue.{Taken, Event, Over, Ended, same_target, is_target, target_in, runs_now, has_some, running_now, appended, completed, cleared, taken}
-use Rattle.nk_plan.specs.Journal.{failure_in, first, is_redirect3, final, opening_in, opening, is_true, cut, main_in, mains_taken, back_in, backs_taken}
+use Rattle.nk_plan.specs.Journal.{failure_in, first, is_redirect3, final, opening_in, opening, main_in, mains_taken, back_in, backs_taken}
 use Rattle.nk_plan.specs.declared.event.ChildEvent.{ChildEvent}
 use Rattle.nk_plan.specs.declared.event.ChildEvent.TheVariants.{Start, Bytes, Stop, Redirect1, Redirect3, Cancel}
-use Rattle.nk_plan.specs.Event.{class_of}
-use Rattle.nk_plan.specs.Child.{Hold, ChildState, run_bytes, run_event, offer_event, offer_all, with_entry, call_suspend, call_resume, call_cancel, refusal, call_retarget, is_empty, call_break, perform_call, step_verdict, flush_with, step_begin, runs_on, react, react_all, bytes_failure, prepend_cancel, fail_data, finish_event, step_finish}
-use Rattle.nk_plan.proofs.Tools.{keeps_if, append_nil}
-use Rattle.nk_base.specs.declared.status.Target.TheVariants as target
+use Rattle.nk_plan.specs.Child.{Hold, ChildState}
+use Rattle.nk_plan.proofs.Tools.{append_nil}
 use Rattle.nk_base.specs.declared.message.Entry.TheVariants as shown
-use Rattle.nk_plan.specs.declared.plan.Reaction.TheVariants as reaction
-use Rattle.nk_plan.specs.declared.plan.Act.TheVariants as act
 use Rattle.nk_plan.specs.declared.journal.ChildEntry.TheVariants as child
 
 -- Where a sequential channel is: at a hop before the start, in the body with these pieces left at this offset, or at its end

@@ -21,7 +21,7 @@ use Rattle.nk_plan.specs.Walk.{ParentBlock, ChildBlock, walk_start, may, CanPlac
 use Rattle.nk_plan.specs.Lanes.{IsPrefix}
 use Rattle.nk_plan.proofs.Tools.{keeps_if}
 use Rattle.nk_plan.proofs.Grows.{NoLane}
-use Rattle.nk_plan.proofs.World.{Joined, joined}
+use Rattle.nk_plan.proofs.Joined.{Joined, joined}
 use Rattle.nk_plan.proofs.Replay.{child_replayed}
 use Rattle.nk_plan.proofs.Blocks.{ups_of, mains_of, backs_of, parent_enters, child_enters, parent_block_at, child_block_at, parent_block_is, child_block_is, parent_sums, child_sums}
 use Rattle.nk_plan.proofs.More.{parent_more, forward_more_at_end, child_more, all_up, all_mains, all_backs, all_main, all_back, all_ups}
@@ -87,9 +87,9 @@ plain_ordered c x w n o =
       parent_is = o.parent_is;
       child_is = ap (λ (y : ChildState). child_step c x y) o.child_is;
       placed =
-        child_more (walk_start (parent_blocks c o.parent_steps) w.forwarded (child_blocks c o.child_steps)) (child_block_at c x s) o.placed
-            (may_none _ _ _ (takes_main_is c x s ∙ ap has_some (no_mains x s.broken n)))
-            (may_none _ _ _ (takes_back_is c x s ∙ ap has_some (no_backs x s.broken n)));
+          child_more (walk_start (parent_blocks c o.parent_steps) w.forwarded (child_blocks c o.child_steps)) (child_block_at c x s) o.placed
+          (may_none _ _ _ (takes_main_is c x s ∙ ap has_some (no_mains x s.broken n)))
+          (may_none _ _ _ (takes_back_is c x s ∙ ap has_some (no_backs x s.broken n)));
     }
 
 fetch_ordered : (c : ChannelPlan) (w : Channel) → Ordered c w → Ordered c (record w { parent = parent_step c parent.Fetch w.parent })
@@ -101,8 +101,8 @@ fetch_ordered c w o =
       parent_is = ap (λ (y : ParentState). parent_step c parent.Fetch y) o.parent_is;
       child_is = o.child_is;
       placed =
-        parent_more (walk_start (parent_blocks c o.parent_steps) w.forwarded (child_blocks c o.child_steps)) (parent_block_at c parent.Fetch s) o.placed
-            (may_none _ _ _ (takes_up_is c parent.Fetch s));
+          parent_more (walk_start (parent_blocks c o.parent_steps) w.forwarded (child_blocks c o.child_steps)) (parent_block_at c parent.Fetch s) o.placed
+          (may_none _ _ _ (takes_up_is c parent.Fetch s));
     }
 
 up_ordered : (c : ChannelPlan) (w : Channel) (l : List UpMsg) → up_lane w ≡ l → Ordered c w → Ordered c (up_step c l w)
@@ -120,8 +120,8 @@ up_ordered c w (m ∷ ms) e o =
       parent_is = ap (λ (y : ParentState). parent_step c (parent.Up m) y) o.parent_is;
       child_is = o.child_is;
       placed =
-        parent_more (walk_start (parent_blocks c o.parent_steps) w.forwarded (child_blocks c o.child_steps)) (parent_block_at c (parent.Up m) s) o.placed
-            (may_next _ (0 + all_up (parent_blocks c o.parent_steps)) (0 + all_ups (child_blocks c o.child_steps)) (omega arith));
+          parent_more (walk_start (parent_blocks c o.parent_steps) w.forwarded (child_blocks c o.child_steps)) (parent_block_at c (parent.Up m) s) o.placed
+          (may_next _ (0 + all_up (parent_blocks c o.parent_steps)) (0 + all_ups (child_blocks c o.child_steps)) (omega arith));
     }
 
 main_ordered : (c : ChannelPlan) (w : Channel) (l : List MainMsg) → main_lane w ≡ l → Ordered c w → Ordered c (main_step c l w)
@@ -139,9 +139,9 @@ main_ordered c w (m ∷ ms) e o =
       parent_is = o.parent_is;
       child_is = ap (λ (y : ChildState). child_step c (child.Main m) y) o.child_is;
       placed =
-        child_more (walk_start (parent_blocks c o.parent_steps) w.forwarded (child_blocks c o.child_steps)) (child_block_at c (child.Main m) s) o.placed
-            (may_next _ (0 + all_main (child_blocks c o.child_steps)) (0 + all_mains (parent_blocks c o.parent_steps)) (omega arith))
-            (may_none _ _ _ (takes_back_is c (child.Main m) s));
+          child_more (walk_start (parent_blocks c o.parent_steps) w.forwarded (child_blocks c o.child_steps)) (child_block_at c (child.Main m) s) o.placed
+          (may_next _ (0 + all_main (child_blocks c o.child_steps)) (0 + all_mains (parent_blocks c o.parent_steps)) (omega arith))
+          (may_none _ _ _ (takes_back_is c (child.Main m) s));
     }
 
 take_length : {A : Type 0} (n : ℕ) (xs : List A) → length (take n xs) ≤ n
@@ -163,9 +163,9 @@ back_ordered c w (m ∷ ms) e o =
       parent_is = o.parent_is;
       child_is = ap (λ (y : ChildState). child_step c (child.Back m) y) o.child_is;
       placed =
-        child_more (walk_start (parent_blocks c o.parent_steps) w.forwarded (child_blocks c o.child_steps)) (child_block_at c (child.Back m) s) o.placed
-            (may_none _ _ _ (takes_main_is c (child.Back m) s))
-            (may_next _ (0 + all_back (child_blocks c o.child_steps)) (0 + w.forwarded) (omega arith));
+          child_more (walk_start (parent_blocks c o.parent_steps) w.forwarded (child_blocks c o.child_steps)) (child_block_at c (child.Back m) s) o.placed
+          (may_none _ _ _ (takes_main_is c (child.Back m) s))
+          (may_next _ (0 + all_back (child_blocks c o.child_steps)) (0 + w.forwarded) (omega arith));
     }
 
 forward_ordered : (c : ChannelPlan) (w : Channel) → Ordered c w → Ordered c (forward_step w)
@@ -181,8 +181,8 @@ forward_ordered c w o =
       parent_is = o.parent_is;
       child_is = o.child_is;
       placed =
-        forward_more_at_end (walk_start (parent_blocks c o.parent_steps) w.forwarded (child_blocks c o.child_steps)) o.placed
-            (lt-ltb (0 + w.forwarded) (0 + all_backs (parent_blocks c o.parent_steps)) (omega arith));
+          forward_more_at_end (walk_start (parent_blocks c o.parent_steps) w.forwarded (child_blocks c o.child_steps)) o.placed
+          (lt-ltb (0 + w.forwarded) (0 + all_backs (parent_blocks c o.parent_steps)) (omega arith));
     })
     (λ r. o)
 
@@ -212,13 +212,13 @@ order_is_run c steps =
     let told : sends_of c w.child.journal ≡ w.child.sent =
     ap (λ (y : ChildState). y.sent) (child_replayed c o.child_steps w.child.journal (ap (λ (y : ChildState). y.journal) o.child_is) ∙ o.child_is) in
     record {
-      parent_steps = o.parent_steps;
-      child_steps = o.child_steps;
-      parent_run = ap (λ (y : ParentState). y.journal) o.parent_is;
-      child_run = ap (λ (y : ChildState). y.journal) o.child_is;
-      mains = j.mains;
-      forwards = j.within;
-      backs = j.backs;
+      down = record {
+        parent_run = (o.parent_steps, ap (λ (y : ParentState). y.journal) o.parent_is);
+        child_run = (o.child_steps, ap (λ (y : ChildState). y.journal) o.child_is);
+        mains = j.mains;
+        forwards = j.within;
+        backs = j.backs;
+      };
       ups = subst (λ t. IsPrefix (ups_taken w.parent.journal) t) (sym told) j.ups;
       placed = o.placed;
     }

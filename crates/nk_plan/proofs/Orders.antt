@@ -351,19 +351,19 @@ run_after c (z ∷ zs) ys = run_after c zs (z ∷ ys)
 pub run_is_order : (c : ChannelPlan) (p : List ParentEntry) (j : List ChildEntry) (n : ℕ) → Run c p j n
     → (steps : List Step) × ((channel_after c steps).parent.journal ≡ p) × ((channel_after c steps).child.journal ≡ j) × ((channel_after c steps).forwarded ≡ n)
 run_is_order c p j n r =
-    let px : List ParentStep = reversed r.parent_steps in
-    let cx : List ChildStep = reversed r.child_steps in
+    let px : List ParentStep = reversed r.down.parent_run.0 in
+    let cx : List ChildStep = reversed r.down.child_run.0 in
     let w : Channel = new_channel c in
-    let ep : (parent_run c w.parent px).journal ≡ p = ap (λ (y : ParentState). y.journal) (parent_run_is c r.parent_steps) ∙ r.parent_run in
-    let ej : (child_run c w.child cx).journal ≡ j = ap (λ (y : ChildState). y.journal) (child_run_is c r.child_steps) ∙ r.child_run in
-    let es : sends_of c j ≡ (child_run c w.child cx).sent = ap (λ (y : ChildState). y.sent) (child_replayed c r.child_steps j r.child_run ∙ sym (child_run_is c r.child_steps)) in
+    let ep : (parent_run c w.parent px).journal ≡ p = ap (λ (y : ParentState). y.journal) (parent_run_is c r.down.parent_run.0) ∙ r.down.parent_run.1 in
+    let ej : (child_run c w.child cx).journal ≡ j = ap (λ (y : ChildState). y.journal) (child_run_is c r.down.child_run.0) ∙ r.down.child_run.1 in
+    let es : sends_of c j ≡ (child_run c w.child cx).sent = ap (λ (y : ChildState). y.sent) (child_replayed c r.down.child_run.0 j r.down.child_run.1 ∙ sym (child_run_is c r.down.child_run.0)) in
     let B : List ParentBlock → List ChildBlock → Type 0 = λ a b. Places (walk_start a n b) r.placed.0 in
     let placing : Places (stand c w px n cx) r.placed.0 =
-    subst (λ b. B (parent_line c w.parent px) b) (sym (child_line_is c r.child_steps)) (subst (λ a. B a (child_blocks c r.child_steps)) (sym (parent_line_is c r.parent_steps)) r.placed.1) in
+    subst (λ b. B (parent_line c w.parent px) b) (sym (child_line_is c r.down.child_run.0)) (subst (λ a. B a (child_blocks c r.down.child_run.0)) (sym (parent_line_is c r.down.parent_run.0)) r.placed.1) in
     let ms : IsPrefix (mains_taken (child_run c w.child cx).journal) (mains_sent (parent_run c w.parent px).journal) =
-    subst (λ t. IsPrefix (mains_taken t) (mains_sent (parent_run c w.parent px).journal)) (sym ej) (subst (λ t. IsPrefix (mains_taken j) (mains_sent t)) (sym ep) r.mains) in
+    subst (λ t. IsPrefix (mains_taken t) (mains_sent (parent_run c w.parent px).journal)) (sym ej) (subst (λ t. IsPrefix (mains_taken j) (mains_sent t)) (sym ep) r.down.mains) in
     let bs : IsPrefix (backs_taken (child_run c w.child cx).journal) (backs_sent (parent_run c w.parent px).journal) =
-    subst (λ t. IsPrefix (backs_taken t) (backs_sent (parent_run c w.parent px).journal)) (sym ej) (subst (λ t. IsPrefix (backs_taken j) (backs_sent t)) (sym ep) (prefix_of_take n (backs_taken j) (backs_sent p) r.backs)) in
+    subst (λ t. IsPrefix (backs_taken t) (backs_sent (parent_run c w.parent px).journal)) (sym ej) (subst (λ t. IsPrefix (backs_taken j) (backs_sent t)) (sym ep) (prefix_of_take n (backs_taken j) (backs_sent p) r.down.backs)) in
     let us : IsPrefix (ups_taken (parent_run c w.parent px).journal) (child_run c w.child cx).sent =
     subst (λ t. IsPrefix (ups_taken (parent_run c w.parent px).journal) t) es (subst (λ t. IsPrefix (ups_taken t) (sends_of c j)) (sym ep) r.ups) in
     let m : Moves c w (ends_at c w px n cx) = order_moves c r.placed.0 px n cx w placing (omega arith) ms bs us in

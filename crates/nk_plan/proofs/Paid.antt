@@ -1,3 +1,4 @@
+-- A parent's credit: the window, less what was sent, and what the page acknowledged.
 use Rattle.std.proofs.Common.{ℕ, zero, suc, ◌≡◌, ◌+◌, ◌≤◌, refl, sym, ◌∙◌, ap, subst, List, [], ◌∷◌, ◌++◌, length, Bool, true, false, nat_lt, take, arith, Option, Some, None, slice_get, ◌==◌, ℤ, pos, int_lt, is_some, not, ◌||◌, add-zero, ◌+ℤ◌, ◌-ℤ◌, ◌≤ℤ◌}
 use Rattle.nk_base.specs.declared.message.MainMsg.{MainMsg}
 use Rattle.nk_base.specs.declared.message.BackMsg.{BackMsg}
@@ -24,7 +25,7 @@ use Rattle.nk_plan.specs.declared.step.Phase.TheVariants.{Closed, Ready, Asking,
 use Rattle.nk_plan.proofs.ParentLaw.{ups-append, backs-append, Keeps, InBody}
 use Rattle.nk_plan.proofs.Tools.{keeps_if, append_nil}
 use Rattle.nk_plan.proofs.Merge.{prefix_of_take}
-use Rattle.nk_plan.proofs.World.{Adds, fetch_step_adds, up_journal, Joined, joined}
+use Rattle.nk_plan.proofs.Joined.{Adds, fetch_step_adds, up_journal, Joined, joined}
 use Rattle.std.proofs.lemmas.Int.{ints}
 use Rattle.nk_plan.specs.Enabled.{body_enabled}
 use Rattle.nk_plan.proofs.Credit.{read_of, read-append, backs_size, backs_size-append, GoodMains, GoodBacks, OwesAll, child_owes}

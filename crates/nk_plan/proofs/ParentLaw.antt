@@ -1,3 +1,4 @@
+-- Each row of the parent's table keeps the lane law, whatever messages come from the page's side.
 use Rattle.std.proofs.Common.{ℕ, suc, ◌≡◌, ◌+◌, ◌≤◌, refl, sym, ◌∙◌, ap, subst, List, [], ◌∷◌, ◌++◌, length, Bool, true, false, Option, Some, None, ◌⊎◌, inl, inr, if◌then◌else◌, slice_get, take, ◌==◌, arith, append_assoc, add_assoc, zero-add, add-zero, pos, int_lt}
 use Rattle.std.proofs.lemmas.Bool.{eqb-true}
 use Rattle.std.proofs.lemmas.Bool.Decides.{eqb_tells}
@@ -258,7 +259,6 @@ mains_start lane.Back h st head = refl
 backs_start : (l : StartLane) (h : ℕ) (st : Status) (head : Head) → backs_sent (start_entries l h st head) ≡ back_start l h st head
 backs_start lane.Main h st head = refl
 backs_start lane.Back h st head = refl
-
 
 -- a kept failure is one
 abbrev KeptFails : Option Status → Type 0

@@ -1,5 +1,5 @@
 -- The laws, put together from the lemmas of the other files.
-use Rattle.std.proofs.Common.{ℕ, ◌≡◌, refl, sym, ◌∙◌, ap, subst, Bool, true, false, if◌then◌else◌, List, Some}
+use Rattle.std.proofs.Common.{ℕ, ◌≡◌, refl, sym, ◌∙◌, ap, subst, Bool, true, false, if◌then◌else◌, List}
 use Rattle.nk_plan.specs.declared.plan.ChannelPlan.{ChannelPlan}
 use Rattle.nk_plan.specs.declared.journal.ParentEntry.{ParentEntry}
 use Rattle.nk_plan.specs.declared.journal.ChildEntry.{ChildEntry}
@@ -12,18 +12,18 @@ use Rattle.nk_plan.specs.Journal.{first, final, cut, opening, ups_taken, mains_s
 use Rattle.nk_plan.specs.Lanes.{MainsStart, BacksStart}
 use Rattle.nk_plan.specs.Child.{ChildState, child_after}
 use Rattle.nk_plan.specs.Channel.{Channel, channel_after}
-use Rattle.nk_plan.specs.Run.{state_of, trace_of, Down, Run}
+use Rattle.nk_plan.specs.Run.{state_of, trace_of, Down}
 use Rattle.nk_plan.specs.Ending.{ending_by, ending_of}
 use Rattle.nk_plan.specs.Laws.{LanesLaw, MergeLaw, RunLaw, HopLaw, FailureLaw, CountsLaw, SendsLaw, StateLaw, OrderRunsLaw, RunOrderLaw, EndingToldLaw, EndingLaw, CalmLaw, ClosedLaw}
 use Rattle.nk_plan.proofs.Premises.{plan_ok, ranges_ok, ends_by_failure}
 use Rattle.nk_plan.proofs.Sent.{lane_law_of}
 use Rattle.nk_plan.proofs.ParentLaw.{lane_law}
-use Rattle.nk_plan.proofs.Merge.{merge}
+use Rattle.nk_plan.proofs.Merge.{TakesDown, merge}
 use Rattle.nk_plan.proofs.StartHop.{start_hop}
 use Rattle.nk_plan.proofs.Tells.{child_tells}
 use Rattle.nk_plan.proofs.Tally.{child_tally, journal_ending}
 use Rattle.nk_plan.proofs.Replay.{child_replayed, determined}
-use Rattle.nk_plan.proofs.World.{Joined, joined}
+use Rattle.nk_plan.proofs.Joined.{Joined, joined}
 use Rattle.nk_plan.proofs.Ordered.{order_is_run}
 use Rattle.nk_plan.proofs.Orders.{run_is_order}
 use Rattle.nk_plan.proofs.Settled.{ending_told}
@@ -37,24 +37,26 @@ lanes c p a (steps, e) = lane_law_of c (ups_taken p) (mains_sent p) (backs_sent 
 shown : (c : ChannelPlan) (steps : List ChildStep) (j : List ChildEntry) → (child_after c steps).journal ≡ j → trace_of c j ≡ (child_after c steps).trace
 shown c steps j e = ap (λ (s : ChildState). s.trace) (child_replayed c steps j e)
 
+-- the lanes, where the child's journal is told by its steps
+down_of : (c : ChannelPlan) (p : List ParentEntry) (j : List ChildEntry) (n : ℕ) (d : Down c p j n) → TakesDown p (child_after c d.child_run.0).journal n
+down_of c p j n d = subst (λ t. TakesDown p t n) (sym d.child_run.1) (d.mains, d.forwards, d.backs)
+
 pub merge_down : MergeLaw
-merge_down c p j n a r (steps, e) d =
-    let d1 : Down c p (child_after c steps).journal n = subst (λ t. Down c p t n) (sym e) d in
-    let t : SeqTrace c (final (child_after c steps).journal) (first (child_after c steps).journal) (cut (child_after c steps).journal) (child_after c steps).trace = merge c p n steps (plan_ok c a) r d1 in
+merge_down c p j n a d =
+    let steps : List ChildStep = d.child_run.0 in
+    let e : (child_after c steps).journal ≡ j = d.child_run.1 in
+    let t : SeqTrace c (final (child_after c steps).journal) (first (child_after c steps).journal) (cut (child_after c steps).journal) (child_after c steps).trace = merge c p n steps (plan_ok c a) d.parent_run (down_of c p j n d) in
     subst (λ t. SeqTrace c (final j) (first j) (cut j) t) (sym (shown c steps j e))
     (subst (λ k. SeqTrace c (final k) (first k) (cut k) (child_after c steps).trace) e t)
 
-run_down : (c : ChannelPlan) (p : List ParentEntry) (j : List ChildEntry) (n : ℕ) → Run c p j n → Down c p j n
-run_down c p j n r = (r.mains, r.forwards, r.backs)
-
 pub merge_run : RunLaw
-merge_run c p j n a r = merge_down c p j n a (r.parent_steps, r.parent_run) (r.child_steps, r.child_run) (run_down c p j n r)
+merge_run c p j n a r = merge_down c p j n a r.down
 
 pub hops : HopLaw
-hops c p j n a r (steps, e) d o =
-    let d1 : Down c p (child_after c steps).journal n = subst (λ t. Down c p t n) (sym e) d in
-    let o1 : opening (child_after c steps).journal ≡ Some false = ap opening e ∙ o in
-    subst (λ t. MainsStart (final t) (mains_sent p) × BacksStart (final t) (backs_sent p)) e (start_hop c p n steps (plan_ok c a) r d1 o1)
+hops c p j n a d o =
+    let steps : List ChildStep = d.child_run.0 in
+    let e : (child_after c steps).journal ≡ j = d.child_run.1 in
+    subst (λ t. MainsStart (final t) (mains_sent p) × BacksStart (final t) (backs_sent p)) e (start_hop c p n steps (plan_ok c a) d.parent_run (down_of c p j n d) (ap opening e ∙ o))
 
 pub failures : FailureLaw
 failures c steps = let t = child_tells c steps in (sym t.first_is, t.drops, sym t.final_is)

@@ -1,3 +1,4 @@
+-- The state that a run leaves is a function of its journal: a replay of the journal reaches it, and stays there.
 use Rattle.std.proofs.Common.{ℕ, zero, suc, ◌≡◌, ◌+◌, ◌≤◌, refl, sym, ◌∙◌, ap, subst, List, [], ◌∷◌, ◌++◌, length, true, ◌||◌, Option, Some, None, is_some, ◌⊎◌, inl, inr, if◌then◌else◌, nat_le, slice_get, ◌==◌, arith, append_assoc, ◌<◌, length-append, pos, int_lt}
 use Rattle.nk_base.specs.declared.status.Status.{Status}
 use Rattle.nk_base.specs.declared.status.Target.{Target}
@@ -29,7 +30,7 @@ use Rattle.nk_plan.specs.declared.step.Phase.{Phase}
 use Rattle.nk_plan.specs.declared.step.Phase.TheVariants.{Closed, Ready, Asking, Follow, Body, Done}
 use Rattle.nk_plan.specs.Run.{step_of, replay_entry, replayed, state_of, parent_step_of, parent_replay_entry, parent_replayed, parent_state_of}
 use Rattle.nk_plan.proofs.Grows.{Grows, offered_all_grows, main_grows, back_grows, noted_grows}
-use Rattle.nk_plan.proofs.World.{up_journal}
+use Rattle.nk_plan.proofs.Joined.{up_journal}
 use Rattle.nk_base.specs.declared.status.Target.TheVariants as target
 use Rattle.nk_base.specs.declared.message.UpMsg.TheVariants as up
 use Rattle.nk_plan.specs.declared.plan.Reaction.TheVariants as reaction

@@ -1,3 +1,4 @@
+-- Where no step that a drain tries is enabled, a channel is not going on.
 use Rattle.std.proofs.Common.{ℕ, ◌≡◌, ◌+◌, ◌<◌, ◌≤◌, refl, sym, ◌∙◌, ap, subst, List, [], ◌++◌, length, Bool, true, false, not, ◌&&◌, ◌||◌, Option, Some, None, is_some, ◌⊎◌, inl, inr, if◌then◌else◌, nat_lt, nat_le, take, arith, slice_get, slice_index, ℤ, pos, int_lt, ◌+ℤ◌, ◌≤ℤ◌}
 use Rattle.std.proofs.lemmas.Int.{ints}
 use Rattle.std.proofs.lemmas.List.{take_all}
@@ -28,7 +29,7 @@ use Rattle.nk_plan.specs.declared.ends.Ending.TheVariants.{Stopped, Suspended, U
 use Rattle.nk_plan.specs.Ending.{state_ending, ends_in_stop, comes_at}
 use Rattle.nk_plan.proofs.ParentLaw.{Keeps, InBody, parent_keeps}
 use Rattle.nk_plan.proofs.Taking.{Whole, hold_is, mains_is, whole_unbroken}
-use Rattle.nk_plan.proofs.World.{Joined, joined, rest_after, run_trace}
+use Rattle.nk_plan.proofs.Joined.{Joined, joined, rest_after, run_trace}
 use Rattle.nk_plan.proofs.Lively.{child_lively, nothing_waits}
 use Rattle.nk_plan.proofs.LivelyQueue.{IsLively, FlushedBy, FlushOk, PostedOk}
 use Rattle.nk_plan.proofs.Heard.{Hears, parent_hears}

@@ -17,13 +17,13 @@ use Rattle.nk_plan.specs.Plan.{pieces_at}
 use Rattle.nk_plan.specs.Journal.{final, opening, ups_taken, mains_sent, backs_sent, backs_taken}
 use Rattle.nk_plan.specs.Lanes.{redirects_to, question, main_start, back_start, piece_messages, stop_message, Unstarted, MainsStart, BacksStart}
 use Rattle.nk_plan.specs.Child.{ChildState, new_child, child_after}
-use Rattle.nk_plan.specs.Run.{IsParentRun, Down}
+use Rattle.nk_plan.specs.Run.{IsParentRun}
 use Rattle.nk_plan.proofs.Tools.{append_nil}
 use Rattle.nk_plan.proofs.Premises.{PlanOk}
 use Rattle.nk_plan.proofs.Sent.{Begun, SentLaw}
 use Rattle.nk_plan.proofs.ParentLaw.{lane_law}
 use Rattle.nk_plan.proofs.Order.{AtHop, InBody, AtEnd, Around, Holds, opening_at}
-use Rattle.nk_plan.proofs.Merge.{final_there, start_redirects, fed, start_inv, run_inv, prefix_of_take}
+use Rattle.nk_plan.proofs.Merge.{final_there, start_redirects, fed, start_inv, run_inv, prefix_of_take, TakesDown}
 use Rattle.nk_plan.proofs.Taking.{redirects, Inv}
 
 mains_start-append : (f : ℕ) (xs ys : List MainMsg) → MainsStart f xs → MainsStart f ys → MainsStart f (xs ++ ys)
@@ -111,7 +111,7 @@ inv_final : (c : ChannelPlan) (md : List MainMsg) (bd : List BackMsg) (s : Child
 inv_final c md bd s (inl i) e = let h = holds_final c i.around _ _ s i.keeps e in sym i.final_at ∙ sym h.1
 inv_final c md bd s (inr i) e = let h = holds_final c i.around _ _ s i.keeps e in sym (i.final_at h.0) ∙ sym h.1
 
-pub start_hop : (c : ChannelPlan) (p : List ParentEntry) (n : ℕ) (steps : List ChildStep) → PlanOk c → IsParentRun c p → Down c p (child_after c steps).journal n
+pub start_hop : (c : ChannelPlan) (p : List ParentEntry) (n : ℕ) (steps : List ChildStep) → PlanOk c → IsParentRun c p → TakesDown p (child_after c steps).journal n
     → opening (child_after c steps).journal ≡ Some false
     → MainsStart (final (child_after c steps).journal) (mains_sent p) × BacksStart (final (child_after c steps).journal) (backs_sent p)
 start_hop c p n steps v (es, e) (m, le, b) o =

@@ -1,3 +1,4 @@
+-- Where no step of a channel is enabled, all lanes are empty, and its parent has done all or waits.
 use Rattle.std.proofs.Common.{ℕ, zero, suc, ◌≡◌, ◌<◌, ◌≤◌, refl, sym, ◌∙◌, ap, subst, List, [], ◌∷◌, ◌++◌, length, Bool, true, false, not, ◌&&◌, ◌||◌, Option, Some, None, is_some, ◌⊎◌, inl, inr, nat_lt, take, drop, arith, slice_get}
 use Rattle.std.proofs.lemmas.List.{take_all}
 use Rattle.std.proofs.lemmas.Bool.{lt-ltb}
@@ -21,7 +22,7 @@ use Rattle.nk_plan.proofs.ParentLaw.{lane_law}
 use Rattle.nk_plan.proofs.Order.{Around, Holds, strip, stops}
 use Rattle.nk_plan.proofs.Merge.{run_inv, start_inv, fed, prefix_of_take}
 use Rattle.nk_plan.proofs.Taking.{Within, main_events, Due, Whole, Cut, Inv, hold_is, mains_is, backs_is, whole_unbroken}
-use Rattle.nk_plan.proofs.World.{Joined, joined, rest_after}
+use Rattle.nk_plan.proofs.Joined.{Joined, joined, rest_after}
 use Rattle.nk_plan.proofs.Lively.{child_lively, nothing_waits}
 use Rattle.nk_plan.proofs.LivelyQueue.{IsLively}
 use Rattle.nk_plan.proofs.Told.{IsTold, child_told, suspends_after}

@@ -1,45 +1,28 @@
 -- Taking the messages of the two lanes: what is still to come, behind what waits and what the hold keeps, stays in order.
-use Rattle.std.proofs.Common.{ℕ, zero, suc, ◌≡◌, ◌+◌, ◌≤◌, refl, sym, ◌∙◌, ap, subst, List, [], ◌∷◌, ◌++◌, length, Bool, true, false, ◌||◌, Option, Some, None, ◌⊎◌, inl, inr, if◌then◌else◌, nat_le, slice_get, take, ◌==◌, arith, append_assoc, add_assoc, zero-add, add-zero, drop}
-use Rattle.std.proofs.lemmas.Bool.{eqb-true, eq-eqb}
+use Rattle.std.proofs.Common.{ℕ, suc, ◌≡◌, refl, sym, ◌∙◌, ap, List, [], ◌∷◌, ◌++◌, Bool, true, false, ◌||◌, Option, Some, None, ◌⊎◌, inl, inr, nat_le, slice_get, append_assoc}
 use Rattle.nk_base.specs.declared.status.Status.{Status}
-use Rattle.nk_base.specs.declared.field.Head.{Head}
 use Rattle.nk_base.specs.declared.message.MainMsg.{MainMsg}
 use Rattle.nk_base.specs.declared.message.BackMsg.{BackMsg}
-use Rattle.nk_base.specs.declared.message.UpMsg.{UpMsg}
 use Rattle.nk_plan.specs.declared.plan.ChannelPlan.{ChannelPlan}
 use Rattle.nk_plan.specs.declared.plan.StartLane.{StartLane}
-use Rattle.nk_plan.specs.declared.plan.Hop.{Hop}
 use Rattle.nk_plan.specs.declared.plan.Act.{Act}
 use Rattle.nk_plan.specs.declared.plan.Control.{Control}
-use Rattle.nk_plan.specs.declared.journal.ParentEntry.{ParentEntry}
 use Rattle.nk_plan.specs.declared.journal.ChildEntry.{ChildEntry}
-use Rattle.nk_plan.specs.declared.step.ChildStep.{ChildStep}
 use Rattle.nk_base.specs.Status.{is_failure}
-use Rattle.nk_plan.specs.Plan.{hop_at, hop_code, hop_pieces}
 use Rattle.nk_plan.proofs.Premises.{PlanOk, ActOk}
-use Rattle.nk_plan.specs.Trace.{SeqTrace}
-use Rattle.nk_plan.specs.Run.{IsParentRun, IsChildState, Down}
-use Rattle.nk_plan.specs.Parent.{size_of}
-use Rattle.nk_plan.specs.Journal.{ups_taken, mains_sent, backs_sent, first, final, cut, mains_taken, backs_taken}
-use Rattle.nk_plan.specs.Lanes.{redirects_to, IsHead, piece_messages, question, main_start, back_start, stop_message, StopCauseIf, Unstarted, IsPrefix}
-use Rattle.nk_plan.proofs.Sent.{Begun, SentLaw}
+use Rattle.nk_plan.specs.Journal.{mains_taken, backs_taken}
+use Rattle.nk_plan.specs.Lanes.{IsPrefix}
 use Rattle.nk_plan.specs.declared.event.ChildEvent.{ChildEvent}
-use Rattle.nk_plan.specs.Child.{Hold, ChildState, offer_all, with_entry, perform_control, step_act, perform_call, call_break, main_events_of, note_main, step_main, note_report, note_redirect, back_hop, back_events_of, back_events, is_among, keep_back, hold_back, step_back, of_hop, not_of_hop, released_hold, step_release, new_hold, new_child, child_step, child_after, step_verdict}
+use Rattle.nk_plan.specs.Child.{Hold, ChildState, offer_all, with_entry, perform_control, step_act, perform_call, call_break, main_events_of, note_main, step_main, note_report, note_redirect, back_hop, back_events_of, back_events, is_among, keep_back, hold_back, step_back}
 use Rattle.nk_plan.proofs.Tools.{keeps_if, append_nil}
-use Rattle.std.proofs.lemmas.List.{take-append-drop}
-use Rattle.std.proofs.Math.Seq.{drop-length}
-use Rattle.nk_plan.proofs.Grows.{Grows, Extends, step_grows, main_grows, back_grows, noted_grows, mains-append, backs-append}
-use Rattle.nk_plan.proofs.ParentLaw.{lane_law}
-use Rattle.nk_plan.proofs.ChildLaw.{Broken, offered_all_keeps, same_entry, performed_keeps, begun_keeps, finished_keeps, verdict_keeps, broken_keeps, or_false, or_false_right, trace_of}
-use Rattle.nk_plan.proofs.Order.{AtHop, InBody, Legal, strip, NoCancel, stops, Around, Holds, Keeps, strip-append, says_new, or_else_none}
+use Rattle.nk_plan.proofs.ChildLaw.{Broken, offered_all_keeps, same_entry, performed_keeps, broken_keeps, or_false, or_false_right}
+use Rattle.nk_plan.proofs.Order.{strip, NoCancel, stops, Around, Holds, Keeps, strip-append, says_new, or_else_none}
 use Rattle.nk_base.specs.declared.status.Target.TheVariants as target
 use Rattle.nk_base.specs.declared.message.MainMsg.TheVariants as main
 use Rattle.nk_base.specs.declared.message.BackMsg.TheVariants as back
 use Rattle.nk_plan.specs.declared.plan.StartLane.TheVariants as lane
-use Rattle.nk_plan.specs.declared.plan.Hop.TheVariants as hop
 use Rattle.nk_plan.specs.declared.plan.Act.TheVariants as act
 use Rattle.nk_plan.specs.declared.journal.ChildEntry.TheVariants as child
-use Rattle.nk_plan.specs.declared.step.ChildStep.TheVariants as step
 
 abbrev pub main_events : List MainMsg → List ChildEvent
 main_events [] = []

@@ -1,3 +1,4 @@
+-- What a child's journal counts: the opening, suspends, resumes and finished callbacks; and a stop is shown last.
 use Rattle.std.proofs.Common.{ℕ, suc, ◌≡◌, ◌+◌, refl, sym, ◌∙◌, ap, List, [], ◌∷◌, ◌++◌, length, Bool, true, false, ◌||◌, Option, Some, None, is_some, inl, inr, if◌then◌else◌, nat_le, slice_get, ◌==◌, arith, ◌<◌}
 use Rattle.nk_base.specs.declared.status.Status.{Status}
 use Rattle.nk_base.specs.declared.status.Target.{Target}
@@ -38,7 +39,6 @@ use Rattle.nk_plan.specs.declared.step.ChildStep.TheVariants as step
 
 abbrev pub journal_ending : ChannelPlan → ChildState → Ending
 journal_ending c s = ending_by c s.journal s.trace s
-
 
 -- What a journal tells of the calls of the page
 

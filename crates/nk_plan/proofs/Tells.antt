@@ -91,8 +91,8 @@ tells_next j e k k' h h' n n' o o' u u' ek eh ed et eu s = record {
   drops = drops_then None j e (λ d. s.first_is ∙ ed d) s.drops;
   telling_is = telling_then new_telling j e ∙ (ap (λ t. telling_after t e) s.telling_is ∙ et);
   sends_are =
-    sends_then new_telling j e
-    ∙ (ap (λ t. t ++ sends_at (telling_at new_telling j) e) s.sends_are ∙ (ap (λ t. u ++ sends_at t e) s.telling_is ∙ eu));
+      sends_then new_telling j e
+      ∙ (ap (λ t. t ++ sends_at (telling_at new_telling j) e) s.sends_are ∙ (ap (λ t. u ++ sends_at t e) s.telling_is ∙ eu));
 }
 
 -- an entry that tells nothing

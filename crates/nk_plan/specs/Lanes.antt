@@ -123,8 +123,8 @@ pub record Started (c : ChannelPlan) (u : List UpMsg) (f : ℕ) (md : List MainM
   pub start_cause : StartCause u f status
   pub mains : md ≡ redirects_to c f ++ (question c f asked ++ main_start c.start f status head)
   pub backs :
-    IsPrefix bd
-    (back_start c.start f status head ++ (piece_messages f 0 (take pieces (pieces_at c f)) ++ stop_message c f stop))
+      IsPrefix bd
+      (back_start c.start f status head ++ (piece_messages f 0 (take pieces (pieces_at c f)) ++ stop_message c f stop))
   pub within : pieces ≤ length (pieces_at c f)
   pub none_failed : is_failure status ≡ true → pieces ≡ 0
   pub stop_cause : StopCauseIf c u f status pieces stop

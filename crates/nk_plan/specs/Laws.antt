@@ -16,7 +16,7 @@ use Rattle.nk_plan.specs.Parent.{parent_after}
 use Rattle.nk_plan.specs.Child.{child_after}
 use Rattle.nk_plan.specs.Channel.{channel_after}
 use Rattle.nk_plan.specs.Enabled.{IsSettled}
-use Rattle.nk_plan.specs.Run.{IsParentRun, IsChildRun, state_of, parent_state_of, trace_of, Down, parent_blocks, child_blocks, Run}
+use Rattle.nk_plan.specs.Run.{IsParentRun, state_of, parent_state_of, trace_of, Down, parent_blocks, child_blocks, Run}
 use Rattle.nk_plan.specs.Ending.{ending_of, state_ending, ends_in_stop}
 use Rattle.nk_plan.specs.Calm.{IsCalm, calm_trace}
 use Rattle.nk_plan.specs.Walk.{Walk, Turn, walk_start, can, placed, is_done, CanPlace, places_all}
@@ -32,7 +32,7 @@ LanesLaw = (c : ChannelPlan) (p : List ParentEntry) → Accepted c → IsParentR
 
 -- what a child has shown, of what it took of a parent's two lanes, is the trace of one sequential channel
 abbrev pub MergeLaw : Type 0
-MergeLaw = (c : ChannelPlan) (p : List ParentEntry) (j : List ChildEntry) (n : ℕ) → Accepted c → IsParentRun c p → IsChildRun c j → Down c p j n
+MergeLaw = (c : ChannelPlan) (p : List ParentEntry) (j : List ChildEntry) (n : ℕ) → Accepted c → Down c p j n
     → SeqTrace c (final j) (first j) (cut j) (trace_of c j)
 
 -- so for every run
@@ -42,7 +42,7 @@ RunLaw = (c : ChannelPlan) (p : List ParentEntry) (j : List ChildEntry) (n : ℕ
 
 -- once a start has run, and no break came before it, the final hop is the hop of the start that the parent sent
 abbrev pub HopLaw : Type 0
-HopLaw = (c : ChannelPlan) (p : List ParentEntry) (j : List ChildEntry) (n : ℕ) → Accepted c → IsParentRun c p → IsChildRun c j → Down c p j n
+HopLaw = (c : ChannelPlan) (p : List ParentEntry) (j : List ChildEntry) (n : ℕ) → Accepted c → Down c p j n
     → opening j ≡ Some false → MainsStart (final j) (mains_sent p) × BacksStart (final j) (backs_sent p)
 
 -- What a child's journal says of its state, for every list of steps

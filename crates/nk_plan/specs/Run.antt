@@ -104,10 +104,14 @@ parent_state_of c p = parent_replayed c p (length p)
 
 -- How the two halves go together
 
--- what a child took begins what a parent sent on the main lane, and what n forwards moved to the background lane
-abbrev pub Down : ChannelPlan → List ParentEntry → List ChildEntry → ℕ → Type 0
-Down c p j n =
-    IsPrefix (mains_taken j) (mains_sent p) × (n ≤ length (backs_sent p)) × IsPrefix (backs_taken j) (take n (backs_sent p))
+-- A run of each half, and n forwards, of which the child took no more than the parent sent and the forwards moved, lane by
+-- lane and in order
+pub record Down (c : ChannelPlan) (p : List ParentEntry) (j : List ChildEntry) (n : ℕ) : Type 0 where
+  pub parent_run : IsParentRun c p
+  pub child_run : IsChildRun c j
+  pub mains : IsPrefix (mains_taken j) (mains_sent p)
+  pub forwards : n ≤ length (backs_sent p)
+  pub backs : IsPrefix (backs_taken j) (take n (backs_sent p))
 
 -- a block, by what it took and sent
 abbrev pub parent_block : List ParentEntry → ParentBlock
@@ -131,14 +135,9 @@ child_blocks c (x ∷ xs) =
     (drop (length (child_after c xs).sent) (child_after c (x ∷ xs)).sent)
     ∷ []
 
--- A run of a whole channel: a run of each half and n forwards, where each message was taken after it was sent, and in order
+-- A run of a whole channel: the parent, too, took no more than the child sent, and some order places the blocks of the two
+-- runs and the forwards, so that each message is taken after it was sent
 pub record Run (c : ChannelPlan) (p : List ParentEntry) (j : List ChildEntry) (n : ℕ) : Type 0 where
-  pub parent_steps : List ParentStep
-  pub child_steps : List ChildStep
-  pub parent_run : (parent_after c parent_steps).journal ≡ p
-  pub child_run : (child_after c child_steps).journal ≡ j
-  pub mains : IsPrefix (mains_taken j) (mains_sent p)
-  pub forwards : n ≤ length (backs_sent p)
-  pub backs : IsPrefix (backs_taken j) (take n (backs_sent p))
+  pub down : Down c p j n
   pub ups : IsPrefix (ups_taken p) (sends_of c j)
-  pub placed : CanPlace (walk_start (parent_blocks c parent_steps) n (child_blocks c child_steps))
+  pub placed : CanPlace (walk_start (parent_blocks c down.parent_run.0) n (child_blocks c down.child_run.0))
