@@ -1,0 +1,6 @@
+pub mod Lines
+pub mod Body
+pub mod Opening
+pub mod Loads
+pub mod Sequential
+pub mod Inputs

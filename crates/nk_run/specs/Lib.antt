@@ -1,0 +1,5 @@
+pub mod Script
+pub mod Load
+pub mod Alone
+pub mod Failures
+pub mod Playing
