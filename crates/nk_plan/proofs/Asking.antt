@@ -20,7 +20,7 @@ use Rattle.nk_plan.specs.Plan.{hop_at, hop_code}
 use Rattle.nk_plan.specs.declared.step.Phase.{Phase}
 use Rattle.nk_plan.specs.declared.step.Phase.TheVariants.{Closed, Ready, Asking, Follow, Body, Done}
 use Rattle.nk_plan.proofs.ParentLaw.{ups-append, Law, Keeps, parent_keeps}
-use Rattle.nk_plan.proofs.Tools.{keeps_if, append_nil, among_more}
+use Rattle.nk_plan.proofs.Tools.{keeps_if, append_nil, among_more, among_split}
 use Rattle.nk_plan.specs.declared.event.ChildEvent.TheVariants.{Redirect1 as Redirect1Event}
 use Rattle.nk_plan.proofs.Merge.{main_events-append}
 use Rattle.nk_plan.proofs.Taking.{main_events, whole_unbroken}
@@ -119,12 +119,6 @@ asking_mains c s Done e l = cc
 -- while a parent asks, it has taken no verdict on its hop
 abbrev Unanswered : ParentState → Type 0
 Unanswered p = p.phase ≡ Asking → (st : Status) → Among (up.Verify p.hop st) (ups_taken p.journal) → ⊥
-
-among_split : (x m : UpMsg) (u : List UpMsg) → Among x (u ++ m ∷ []) → Among x u ⊎ (m ≡ x)
-among_split x m [] (inl e) = inr e
-among_split x m [] (inr h) = absurd h
-among_split x m (y ∷ u) (inl e) = inl (inl e)
-among_split x m (y ∷ u) (inr h) = elim (among_split x m u h) [ inl a ↦ inl (inr a) | inr b ↦ inr b ]
 
 open_asks : (ph : Phase) → opened_phase ph ≡ Asking → ph ≡ Asking
 open_asks Closed e = cc

@@ -18,7 +18,7 @@ use Rattle.nk_plan.specs.Parent.{ParentState, parent_step, parent_after}
 use Rattle.nk_plan.specs.Child.{ChildState, with_entry, step_main, step_back, child_step, child_after}
 use Rattle.nk_plan.specs.Run.{parent_block, child_block, parent_blocks, child_blocks}
 use Rattle.nk_plan.specs.Walk.{ParentBlock, ChildBlock, counted}
-use Rattle.nk_plan.proofs.Tools.{append_nil}
+use Rattle.nk_plan.proofs.Tools.{append_nil, last_empty}
 use Rattle.nk_plan.proofs.ParentLaw.{ups-append, mains-append, backs-append}
 use Rattle.nk_plan.proofs.Grows as child_side
 use Rattle.nk_plan.proofs.Grows.{Grown, Grows, plain_grows, main_grows, back_grows, noted_grows}
@@ -85,10 +85,6 @@ backs_of (child.Finish t) broken = []
 abbrev pub ChildTakesFirst : List ChildEntry → Type 0
 ChildTakesFirst [] = Unit {0}
 ChildTakesFirst (e ∷ j) = (mains_taken j ≡ []) × (backs_taken j ≡ [])
-
-last_empty : {A : Type 0} (xs ys : List A) → xs ++ ys ≡ [] → ys ≡ []
-last_empty [] ys h = h
-last_empty (x ∷ xs) ys h = cc
 
 child_takes_none : (j : List ChildEntry) → mains_taken j ≡ [] → backs_taken j ≡ [] → ChildTakesFirst j
 child_takes_none [] m b = tt

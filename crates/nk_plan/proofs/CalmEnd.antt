@@ -1,5 +1,5 @@
 -- What a calm load has shown once it has stopped is the calm trace of its plan.
-use Rattle.std.proofs.Common.{ℕ, zero, suc, ◌≡◌, ◌+◌, ◌≤◌, ◌<◌, refl, sym, ◌∙◌, ap, subst, List, [], ◌∷◌, ◌++◌, length, Bool, true, false, if◌then◌else◌, nat_lt, take, arith, append_assoc, Option, Some, None, ◌==◌, zero-add, nat_le, ◌&&◌, ◌⊎◌, inl, inr}
+use Rattle.std.proofs.Common.{ℕ, ◌≡◌, ◌+◌, ◌≤◌, ◌<◌, refl, sym, ◌∙◌, ap, subst, List, [], ◌∷◌, ◌++◌, length, Bool, true, false, if◌then◌else◌, nat_lt, take, arith, append_assoc, Option, Some, None, ◌==◌, zero-add, nat_le, ◌&&◌, ◌⊎◌, inl, inr}
 use Rattle.std.proofs.lemmas.List.{take_all}
 use Rattle.nk_base.specs.declared.message.MainMsg.{MainMsg}
 use Rattle.nk_base.specs.declared.message.BackMsg.{BackMsg}
@@ -24,7 +24,7 @@ use Rattle.nk_plan.specs.Plan.{hop_at, hop_pieces, EndsWell, stop_trailers, hop_
 use Rattle.nk_plan.proofs.ParentLaw.{lane_law}
 use borrow.Author.Tests.{ltb-true}
 use Rattle.std.proofs.lemmas.Bool.{leb-true, le-leb, eqb-true, eq-eqb}
-use Rattle.nk_plan.proofs.Tools.{keeps_if, among_more}
+use Rattle.nk_plan.proofs.Tools.{keeps_if, among_more, le_or_more}
 use Rattle.nk_plan.specs.Failure.{kept_status}
 use Rattle.nk_plan.specs.declared.event.ChildEvent.{ChildEvent}
 use Rattle.nk_plan.specs.declared.event.ChildEvent.TheVariants.{Start as StartEvent, Stop as StopEvent, Bytes as BytesEvent, Redirect1 as Redirect1Event, Redirect3 as Redirect3Event, Cancel as CancelEvent}
@@ -106,11 +106,6 @@ other_none k i st rs n e = keeps_if (λ x. x ≡ None → bytes_failure rs i ≡
 
 here_some : (k : ℕ) (st : Status) (rs : List Reaction) → (if k == k then Some st else bytes_failure rs k) ≡ None → ⊥
 here_some k st rs e = let x : (k == k) ≡ true = eq-eqb k k refl in let y : Some st ≡ None = rw x at e in cc
-
-le_or_more : (n m : ℕ) → (n ≤ m) ⊎ (m < n)
-le_or_more zero m = inl (omega arith)
-le_or_more (suc n) zero = inr (omega arith)
-le_or_more (suc n) (suc m) = elim (le_or_more n m) [ inl x ↦ inl (omega arith) | inr x ↦ inr (omega arith) ]
 
 beyond : (most k : ℕ) (st : Status) (rs : List Reaction) → 1 ≤ k → NoFail (reaction.BytesFail k st ∷ rs) most → most < k
 beyond most k st rs p f = elim (le_or_more k most) [ inl x ↦ absurd (here_some k st rs (f k p x)) | inr x ↦ x ]

@@ -1,5 +1,5 @@
 -- The rows of the child's table keep the course of a calm load.
-use Rattle.std.proofs.Common.{ℕ, suc, ◌≡◌, ◌+◌, refl, sym, ◌∙◌, ap, subst, List, [], ◌∷◌, ◌++◌, length, Bool, true, false, ◌||◌, Option, Some, None, is_some, ◌⊎◌, inl, inr, if◌then◌else◌, nat_lt, slice_get, ◌==◌, arith, add_assoc, zero-add, add-zero}
+use Rattle.std.proofs.Common.{ℕ, suc, ◌≡◌, ◌+◌, refl, sym, ◌∙◌, ap, subst, List, [], ◌∷◌, ◌++◌, length, Bool, true, false, ◌||◌, Option, Some, None, is_some, ◌⊎◌, inl, inr, if◌then◌else◌, nat_lt, slice_get, slice_index, ◌==◌, arith, add_assoc, zero-add, add-zero}
 use Rattle.nk_base.specs.declared.status.Status.{Status}
 use Rattle.nk_base.specs.declared.status.Target.{Target}
 use Rattle.nk_base.specs.declared.status.RetargetError.{RetargetError}
@@ -14,13 +14,13 @@ use Rattle.nk_base.specs.Status.{ok, is_failure}
 use Rattle.nk_plan.specs.Plan.{stop_trailers}
 use Rattle.nk_plan.proofs.Premises.{EndsByFailure}
 use Rattle.nk_plan.specs.Failure.{kept_status, merged}
-use Rattle.nk_base.specs.Queue.{Taken, Event, Over, Ended, same_target, is_target, target_in, runs_now, has_some, running_now, appended, completed, taken}
+use Rattle.nk_base.specs.Queue.{Taken, Event, Over, Ended, same_target, is_target, target_number, target_in, runs_now, has_some, running_now, appended, completed, taken}
 use Rattle.nk_plan.specs.declared.plan.StartLane.{StartLane}
 use Rattle.nk_plan.specs.Child.{main_events_of, note_main, step_main, back_hop, back_events_of, back_events, is_among, hold_back, step_back, of_hop, released_hold, step_release, ChildState, run_bytes, run_event, offer_event, offer_all, with_entry, call_cancel, refusal, call_retarget, perform_call, perform_control, step_act, step_verdict, flush_with, step_begin, runs_on, react_all, bytes_failure, prepend_cancel, fail_data, finish_event, step_finish, not_of_hop, verdict_status}
 use Rattle.nk_plan.specs.declared.event.ChildEvent.{ChildEvent}
 use Rattle.nk_plan.specs.declared.event.ChildEvent.TheVariants.{Start, Bytes, Stop, Redirect1, Redirect3, Cancel}
 use Rattle.nk_plan.specs.Event.{class_of}
-use Rattle.nk_plan.proofs.Tools.{keeps_if}
+use Rattle.nk_plan.proofs.Tools.{keeps_if, by_bool}
 use Rattle.std.proofs.lemmas.Bool.{eqb-true}
 use Rattle.std.proofs.lemmas.Bool.Decides.{eqb_tells}
 use Rattle.nk_plan.specs.Calm.{NeverSuspends, start_reaction}
@@ -38,7 +38,7 @@ use Rattle.nk_plan.specs.declared.plan.Reaction.TheVariants as reaction
 use Rattle.nk_plan.specs.declared.plan.Act.TheVariants as act
 use Rattle.nk_plan.specs.declared.journal.ChildEntry.TheVariants as child
 use Rattle.nk_plan.specs.declared.plan.StartLane.TheVariants as lane
-use Rattle.nk_plan.proofs.CourseState.{odd, data_count, HeadIs, odd_bytes, odd_stop, count_then, head_then, RightEvent, RightEvents, RightBack, RightBacks, RightMain, NoCancelUp, Silent, silent_then, event_bytes, events_bytes, back_bytes, backs_bytes, NoFail, RunOk, Course, Quiet, Going, Pending, Kept, Closing, Odd, Calms, Calmly, by_bool, course_map, course_sum, course_says, merged_fails, start_calm, stop_calm, shown_calm, drop_calm, cancel_calm}
+use Rattle.nk_plan.proofs.CourseState.{odd, data_count, HeadIs, odd_bytes, odd_stop, count_then, head_then, RightEvent, RightEvents, RightBack, RightBacks, RightMain, NoCancelUp, Silent, silent_then, event_bytes, events_bytes, back_bytes, backs_bytes, NoFail, RunOk, Course, Quiet, Going, Pending, Kept, Closing, Odd, Calms, Calmly, course_map, course_sum, course_says, merged_fails, start_calm, stop_calm, shown_calm, drop_calm, cancel_calm}
 
 -- The rows, over whole states
 
@@ -352,10 +352,13 @@ pub begun_calm : (c : ChannelPlan) (E : Status) (T : Status → Type 0) (G : Typ
     → OkOrFails E → IsLively s → (s.stopped ≡ true → events_bytes s.queue.waiting ≡ 0) → Calmly c E T G s [] total → Calmly c E T G (step_begin c t s) [] total
 begun_calm c E T G t s total ef l nb k =
     let P : ChildState → Type 0 = λ x. Calmly c E T G x [] total in
-    keeps_if P (runs_on s.running t) s _ (λ r. k)
-    (λ r. keeps_if P (is_target s.queue.flushing t) (flush_with c t (taken class_of s.queue t s.queue.waiting) s) _
+    let posted : Bool = nat_lt 0 (slice_index s.queue.posted (target_number t)) in
+    let done : ChildState = record s { queue = completed s.queue t; journal = s.journal ++ child.Complete t ∷ [] } in
+    let taking : ChildState = flush_with c t (taken class_of s.queue t s.queue.waiting) s in
+    keeps_if P (runs_on s.running t) s (if is_target s.queue.flushing t then taking else (if posted then done else s)) (λ r. k)
+    (λ r. keeps_if P (is_target s.queue.flushing t) taking (if posted then done else s)
     (λ q. taken_calm c E T G t s.queue.waiting s total ef (runs_elsewhere s.running s.queue.flushing t r q l.flush_is) nb refl k)
-    (λ q. keeps_if P _ (record s { queue = completed s.queue t; journal = s.journal ++ child.Complete t ∷ [] }) s (λ p. k) (λ p. k)))
+    (λ q. keeps_if P posted done s (λ p. k) (λ p. k)))
 
 -- The end of a callback
 

@@ -14,7 +14,7 @@ use Rattle.nk_plan.specs.Failure.{kept_status, merged}
 use Rattle.nk_plan.specs.Child.{cancel_messages, ChildState, bytes_failure, hop_verdict}
 use Rattle.nk_plan.specs.declared.event.ChildEvent.{ChildEvent}
 use Rattle.nk_plan.specs.declared.event.ChildEvent.TheVariants.{Start, Bytes, Stop, Redirect1, Redirect3, Cancel}
-use Rattle.nk_plan.proofs.Tools.{append_nil}
+use Rattle.nk_plan.proofs.Tools.{append_nil, by_bool}
 use Rattle.nk_plan.specs.Calm.{start_reaction}
 use Rattle.nk_plan.proofs.Order.{NoCancel, CancelsFirst}
 use Rattle.nk_plan.proofs.Tally.{has_stop}
@@ -266,10 +266,6 @@ pub record Calms (c : ChannelPlan) (E : Status) (T : Status → Type 0) (G : Typ
 
 abbrev pub Calmly : ChannelPlan → Status → (Status → Type 0) → Type 0 → ChildState → List ChildEvent → ℕ → Type 0
 Calmly c E T G s pend total = Calms c E T G s.trace s.kept s.stopped s.broken s.suspends s.running s.queue.waiting s.hold.kept s.data_begun s.sent pend total
-
-pub by_bool : {P : Type 0} (b : Bool) → (b ≡ true → P) → (b ≡ false → P) → P
-by_bool true p q = p refl
-by_bool false p q = q refl
 
 -- the same course, with other events waiting, more said, another sum
 pub course_map : (c : ChannelPlan) (E : Status) (T : Status → Type 0) (G : Type 0) (trace : List Entry) (kept : Option Status) (stopped : Bool) (r : Option (Target × ChildEvent)) (w w' : List ChildEvent) (n : ℕ) (u u' : List UpMsg) (S S' : Type 0)

@@ -22,7 +22,7 @@ use Rattle.nk_plan.specs.Child.{main_events_of, note_main, step_main, back_hop, 
 use Rattle.nk_plan.specs.declared.event.ChildEvent.{ChildEvent}
 use Rattle.nk_plan.specs.declared.event.ChildEvent.TheVariants.{Start, Bytes, Stop, Redirect1, Redirect3, Cancel}
 use Rattle.nk_plan.specs.Event.{class_of}
-use Rattle.nk_plan.proofs.Tools.{keeps_if, append_nil, among_more, among_last}
+use Rattle.nk_plan.proofs.Tools.{keeps_if, append_nil, among_more, among_last, by_bool}
 use Rattle.nk_plan.specs.Lanes.{Among}
 use Rattle.nk_plan.proofs.Lively.{child_lively, offered_lively, no_flush, nothing_runs, runs_elsewhere}
 use Rattle.nk_plan.proofs.LivelyQueue.{IsLively, forced_by, cleared_lively}
@@ -194,10 +194,6 @@ excused_more : (bad broken : Bool) (u v : List UpMsg) → Excused bad broken u �
 excused_more bad broken u v (inl b) = inl b
 excused_more bad broken u v (inr (inl b)) = inr (inl b)
 excused_more bad broken u v (inr (inr (q, f, a))) = inr (inr (q, f, among_more (up.Cancel q) u v a))
-
-by_bool : {P : Type 0} (b : Bool) → (b ≡ true → P) → (b ≡ false → P) → P
-by_bool true p q = p refl
-by_bool false p q = q refl
 
 merged_clean : (q : Option Status) (st : Status) → q ≡ None → is_failure st ≡ false → merged q st ≡ None
 merged_clean None st e f = rw f refl

@@ -4,6 +4,7 @@ use Rattle.std.proofs.Common.{ℕ, suc, zero, ◌≡◌, ◌+◌, ◌-◌, ◌�
 use Rattle.nk_plan.specs.Walk.{ParentBlock, ChildBlock, Turn, Parent, Forward, Child, counted, may, may_forward, none_left, is_zero, Places, CanPlace}
 use Rattle.nk_plan.proofs.Placing.{after, before}
 use Rattle.nk_plan.proofs.More.{standing}
+use Rattle.nk_plan.proofs.Tools.{other}
 
 -- the entries of a block: none, or the first and how many messages each of the others sends
 pub data ChildPiece : Type 0 where
@@ -33,10 +34,6 @@ child_wholes (x ∷ xs) = child_whole x ∷ child_wholes xs
 abbrev pub all_child_parts : List ChildPiece → List ChildBlock
 all_child_parts [] = []
 all_child_parts (x ∷ xs) = child_parts x ++ all_child_parts xs
-
-other : (a b : Bool) → (a && b) ≡ true → b ≡ true
-other true b h = h
-other false b h = cc
 
 shift : (ps : List ParentBlock) (n : ℕ) (bs : List ChildBlock) (ut us us' mt mt' ms bt bt' bm ks : ℕ) → us ≡ us' → mt ≡ mt' → bt ≡ bt'
     → CanPlace (standing ps n bs ut us mt ms bt bm ks) → CanPlace (standing ps n bs ut us' mt' ms bt' bm ks)
@@ -92,7 +89,7 @@ front m b first more xs ps n ut us mt ms bt bm ks t c =
     shift ps n (all_child_parts xs) ut ((us + first) + total more) (us + (first + total more)) (mt + counted m) (mt + counted m) ms (bt + counted b) (bt + counted b) bm ks (omega arith) refl refl
     (quiet_out more (all_child_parts xs) ps n ut (us + first) (mt + counted m) ms (bt + counted b) bm ks one)
 
-fits_more : (n k a b : ℕ) → may_forward n a b ≡ true → n + k ≡ ((n - 1) + k) + 1
+pub fits_more : (n k a b : ℕ) → may_forward n a b ≡ true → n + k ≡ ((n - 1) + k) + 1
 fits_more zero k a b h = cc
 fits_more (suc n) k a b h = omega arith
 

@@ -1,8 +1,9 @@
 -- A parent's blocks can be placed exactly where their entries can, one by one: the first entry of a block takes as the block
 -- does, and the others take nothing.
 use Rattle.std.proofs.Common.{ℕ, suc, zero, ◌≡◌, ◌+◌, ◌-◌, ◌≤◌, refl, subst, Bool, true, false, List, [], ◌∷◌, ◌++◌, length, arith}
-use Rattle.nk_plan.specs.Walk.{ParentBlock, ChildBlock, Turn, Parent, Forward, Child, counted, may, may_forward, Places, CanPlace}
+use Rattle.nk_plan.specs.Walk.{ParentBlock, ChildBlock, Turn, Parent, Forward, Child, counted, may, Places, CanPlace}
 use Rattle.nk_plan.proofs.Placing.{after, before}
+use Rattle.nk_plan.proofs.CutChild.{fits_more}
 use Rattle.nk_plan.proofs.More.{standing}
 
 -- how many messages an entry that takes nothing sends on each lane
@@ -96,10 +97,6 @@ front u m b more xs n bs ut us mt ms bt bm ks t c =
     let first = after (standing (all_parent_parts (Parts u m b more ∷ xs)) n bs ut us mt ms bt bm ks) Parent t c in
     shift (all_parent_parts xs) n bs (ut + counted u) (ut + counted u) us mt ((ms + m) + total_mains more) (ms + (m + total_mains more)) bt bm ((ks + b) + total_backs more) (ks + (b + total_backs more)) refl (omega arith) (omega arith)
     (quiet_out more (all_parent_parts xs) n bs (ut + counted u) us mt (ms + m) bt bm (ks + b) first)
-
-fits_more : (n k a b : ℕ) → may_forward n a b ≡ true → n + k ≡ ((n - 1) + k) + 1
-fits_more zero k a b h = cc
-fits_more (suc n) k a b h = omega arith
 
 to_wholes : (fuel : ℕ) (o : List Turn) (xs : List ParentPiece) (n : ℕ) (bs : List ChildBlock) (ut us mt ms bt bm ks : ℕ) → length xs + (n + length bs) ≤ fuel
     → Places (standing (all_parent_parts xs) n bs ut us mt ms bt bm ks) o → CanPlace (standing (parent_wholes xs) n bs ut us mt ms bt bm ks)

@@ -14,7 +14,7 @@ use Rattle.nk_plan.specs.Child.{ChildState, child_after}
 use Rattle.nk_plan.specs.Run.{parent_block, child_block, parent_blocks, child_blocks}
 use Rattle.nk_plan.specs.Telling.{Telling, new_telling, sends_at, telling_after, sends_from, parent_entry_block, parent_entries, child_entry_block, child_entries}
 use Rattle.nk_plan.specs.Walk.{ParentBlock, ChildBlock, walk_start, CanPlace, places_all}
-use Rattle.nk_plan.proofs.Tools.{append_nil}
+use Rattle.nk_plan.proofs.Tools.{append_nil, last_empty}
 use Rattle.nk_plan.proofs.Blocks.{ParentTakesFirst, parent_enters, ChildTakesFirst, child_enters, parent_block_at, child_block_at, parent_block_is, child_block_is}
 use Rattle.nk_plan.proofs.Tells.{telling_at, child_tells}
 use Rattle.nk_plan.proofs.Placing.{walk_exact}
@@ -148,10 +148,6 @@ child_whole_is t (e ∷ j) u h n =
 first_empty : {A : Type 0} (xs ys : List A) → xs ++ ys ≡ [] → xs ≡ []
 first_empty [] ys h = refl
 first_empty (x ∷ xs) ys h = cc
-
-last_empty : {A : Type 0} (xs ys : List A) → xs ++ ys ≡ [] → ys ≡ []
-last_empty [] ys h = h
-last_empty (x ∷ xs) ys h = cc
 
 quiet_child_is : (t : Telling) (j : List ChildEntry) → mains_taken j ≡ [] → backs_taken j ≡ [] → quiet_child (sizes t j) ≡ child_entries t j
 quiet_child_is t [] m b = refl

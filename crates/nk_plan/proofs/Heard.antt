@@ -18,7 +18,7 @@ use Rattle.nk_plan.specs.Plan.{hop_at}
 use Rattle.nk_plan.specs.declared.step.Phase.{Phase}
 use Rattle.nk_plan.specs.declared.step.Phase.TheVariants.{Closed, Ready, Asking, Follow, Body, Done}
 use Rattle.nk_plan.proofs.ParentLaw.{ups-append, mains-append, backs-append}
-use Rattle.nk_plan.proofs.Tools.{keeps_if, append_nil, among_more, among_last}
+use Rattle.nk_plan.proofs.Tools.{keeps_if, append_nil, among_more, among_last, among_split}
 use Rattle.nk_plan.specs.Failure.{merged}
 use Rattle.nk_plan.specs.declared.event.ChildEvent.{ChildEvent}
 use Rattle.nk_plan.specs.declared.event.ChildEvent.TheVariants.{Start as StartEvent, Stop as StopEvent, Bytes as BytesEvent, Redirect1 as Redirect1Event, Redirect3 as Redirect3Event, Cancel as CancelEvent}
@@ -224,12 +224,6 @@ cancelled_fails Asking q st f = inr (merged_fails_none q st f)
 cancelled_fails Follow q st f = inr (merged_fails_none q st f)
 cancelled_fails Body q st f = inr (merged_fails_none q st f)
 cancelled_fails Done q st f = inl refl
-
-among_split : (x m : UpMsg) (u : List UpMsg) → Among x (u ++ m ∷ []) → Among x u ⊎ (m ≡ x)
-among_split x m [] (inl e) = inr e
-among_split x m [] (inr h) = absurd h
-among_split x m (y ∷ u) (inl e) = inl (inl e)
-among_split x m (y ∷ u) (inr h) = elim (among_split x m u h) [ inl a ↦ inl (inr a) | inr b ↦ inr b ]
 
 -- a message that changes phase, flag and failure in this way
 heard_more : (ph ph' : Phase) (fl fl' : Bool) (k k' : Option Status) (u : List UpMsg) (md : List MainMsg) (bd : List BackMsg) (m : UpMsg)

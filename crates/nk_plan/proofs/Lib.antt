@@ -1,5 +1,6 @@
 pub mod Asking
 pub mod Blocks
+pub mod Bounds
 pub mod CalmEnd
 pub mod CalmRows
 pub mod CalmRun

@@ -20,7 +20,7 @@ use Rattle.nk_plan.specs.Child.{main_events_of, note_main, step_main, back_hop, 
 use Rattle.nk_plan.specs.declared.event.ChildEvent.{ChildEvent}
 use Rattle.nk_plan.specs.declared.event.ChildEvent.TheVariants.{Start, Bytes, Stop, Redirect1, Redirect3, Cancel}
 use Rattle.nk_plan.specs.Event.{class_of}
-use Rattle.nk_plan.proofs.Tools.{keeps_if}
+use Rattle.nk_plan.proofs.Tools.{keeps_if, or_zero}
 use borrow.Author.Tests.{ltb-true}
 use Rattle.std.proofs.lemmas.Bool.{lt-ltb}
 use Rattle.nk_plan.specs.Enabled.{child_enabled}
@@ -120,10 +120,6 @@ offered_all_lively c here (e ∷ es) s l = offered_all_lively c here es (offer_e
 or_left : (a b : Bool) → (a || b) ≡ false → a ≡ false
 or_left true b h = cc
 or_left false b h = refl
-
-or_zero : (a b : Bool) → (a || b) ≡ false → b ≡ false
-or_zero true b h = cc
-or_zero false b h = h
 
 retarget_lively : (f : ℕ) (r : Option (Target × ChildEvent)) (o : Option RetargetError) (n : ℕ) (s : ChildState) → (1 ≤ n) × (n ≤ 16) → LivelyAt f r s → LivelyAt f r (call_retarget o n s)
 retarget_lively f r (Some e) n s p l = l

@@ -13,6 +13,7 @@ use borrow.Author.Tests.{ltb-true}
 use Rattle.std.proofs.lemmas.Bool.{eqb-true, eq-eqb, lt-ltb}
 use Rattle.std.proofs.lemmas.Bool.Decides.{eqb_tells}
 use Rattle.nk_base.specs.declared.status.Target.TheVariants as target
+use Rattle.nk_plan.proofs.Tools.{by_bool}
 
 pub same_number : (t u : Target) → same_target t u ≡ true → target_number t ≡ target_number u
 same_number t u e = ap target_number (same_is t u e)
@@ -326,10 +327,6 @@ idle_lively f q r n l = record {
   flush_ok = l.flush_ok;
   data_ok = l.data_ok;
 }
-
-pub by_bool : {P : Type 0} (b : Bool) → (b ≡ true → P) → (b ≡ false → P) → P
-by_bool true p q = p refl
-by_bool false p q = q refl
 
 -- beginning a flush where events wait: the parts of the condition
 pub flush_by : Bool → Option Target → Target → Option Target

@@ -1,6 +1,7 @@
 -- One more item at the end of one of the three lists, which may be placed once all else was.
-use Rattle.std.proofs.Common.{ℕ, suc, zero, ◌≡◌, ◌+◌, ◌-◌, refl, sym, ◌∙◌, ap, subst, Bool, true, false, ◌&&◌, nat_lt, List, [], ◌∷◌, ◌++◌, arith}
+use Rattle.std.proofs.Common.{ℕ, suc, zero, ◌≡◌, ◌+◌, ◌-◌, refl, sym, ◌∙◌, ap, subst, Bool, true, nat_lt, List, [], ◌∷◌, ◌++◌, arith}
 use Rattle.nk_plan.specs.Walk.{ParentBlock, ChildBlock, Walk, Turn, Parent, Forward, Child, counted, may, Places, CanPlace}
+use Rattle.nk_plan.proofs.Tools.{both}
 
 -- where the walk stands
 abbrev pub standing : List ParentBlock → ℕ → List ChildBlock → ℕ → ℕ → ℕ → ℕ → ℕ → ℕ → ℕ → Walk
@@ -64,10 +65,6 @@ parent_last (Child ∷ ts) ps n (c ∷ cs) ut us mt ms bt bm ks b h m =
 pub parent_more : (w : Walk) (b : ParentBlock) → CanPlace w → may b.takes_up (w.ups_taken + all_up w.parents) (w.ups_sent + all_ups w.children) ≡ true
     → CanPlace (record w { parents = w.parents ++ b ∷ [] })
 parent_more w b o m = (o.0 ++ Parent ∷ [], parent_last o.0 w.parents w.forwards w.children w.ups_taken w.ups_sent w.mains_taken w.mains_sent w.backs_taken w.backs_moved w.backs_sent b o.1 m)
-
-both : (a b : Bool) → a ≡ true → b ≡ true → (a && b) ≡ true
-both true b p q = q
-both false b p q = p
 
 child_last : (order : List Turn) (ps : List ParentBlock) (n : ℕ) (bs : List ChildBlock) (ut us mt ms bt bm ks : ℕ) (b : ChildBlock)
     → Places (standing ps n bs ut us mt ms bt bm ks) order → may b.takes_main (mt + all_main bs) (ms + all_mains ps) ≡ true → may b.takes_back (bt + all_back bs) (bm + n) ≡ true

@@ -16,7 +16,7 @@ use Rattle.nk_plan.specs.Journal.{failure_in, first, is_redirect3, final, openin
 use Rattle.nk_plan.specs.declared.event.ChildEvent.{ChildEvent}
 use Rattle.nk_plan.specs.declared.event.ChildEvent.TheVariants.{Start, Bytes, Stop, Redirect1, Redirect3, Cancel}
 use Rattle.nk_plan.specs.Child.{Hold, ChildState}
-use Rattle.nk_plan.proofs.Tools.{append_nil}
+use Rattle.nk_plan.proofs.Tools.{append_nil, swap_if}
 use Rattle.nk_base.specs.declared.message.Entry.TheVariants as shown
 use Rattle.nk_plan.specs.declared.journal.ChildEntry.TheVariants as child
 
@@ -180,12 +180,6 @@ first_then (d ∷ j) e = ap (λ t. or_else (failure_in d) t) (first_then j e) �
 pub opening_then : (j : List ChildEntry) (e : ChildEntry) → opening (j ++ e ∷ []) ≡ or_else (opening j) (opening_in e)
 opening_then [] e = or_else_none (opening_in e)
 opening_then (d ∷ j) e = ap (λ t. or_else (opening_in d) t) (opening_then j e) ∙ sym (or_else_assoc (opening_in d) (opening j) (opening_in e))
-
-pub swap_if : (a b : Bool) (n : ℕ) → (if a then suc (if b then suc n else n) else (if b then suc n else n)) ≡ (if b then suc (if a then suc n else n) else (if a then suc n else n))
-swap_if true true n = refl
-swap_if true false n = refl
-swap_if false true n = refl
-swap_if false false n = refl
 
 pub final_then : (j : List ChildEntry) (e : ChildEntry) → final (j ++ e ∷ []) ≡ (if is_redirect3 e then suc (final j) else final j)
 final_then [] e = refl

@@ -1,5 +1,5 @@
 -- Every run comes from an order of steps of a whole channel: the order in which its blocks are placed.
-use Rattle.std.proofs.Common.{ℕ, zero, suc, ◌≡◌, ◌+◌, ◌-◌, ◌<◌, ◌≤◌, refl, sym, ◌∙◌, ap, subst, Bool, true, false, ◌&&◌, if◌then◌else◌, nat_lt, List, [], ◌∷◌, ◌++◌, length, drop, take, arith, append_assoc}
+use Rattle.std.proofs.Common.{ℕ, zero, suc, ◌≡◌, ◌+◌, ◌-◌, ◌<◌, ◌≤◌, refl, sym, ◌∙◌, ap, subst, Bool, true, false, if◌then◌else◌, nat_lt, List, [], ◌∷◌, ◌++◌, length, drop, take, arith, append_assoc}
 use Rattle.std.proofs.lemmas.List.{take-append-drop}
 use borrow.Author.Tests.{ltb-true}
 use Rattle.nk_base.specs.declared.message.MainMsg.{MainMsg}
@@ -23,7 +23,7 @@ use Rattle.nk_plan.specs.Run.{parent_blocks, child_blocks, sends_of, Run}
 use Rattle.nk_plan.specs.Walk.{ParentBlock, ChildBlock, Walk, Turn, Parent, Child, walk_start, counted, may, placed, Places}
 use Rattle.nk_plan.specs.Walk.{Forward as Onward}
 use Rattle.nk_plan.specs.Lanes.{IsPrefix}
-use Rattle.nk_plan.proofs.Tools.{append_nil}
+use Rattle.nk_plan.proofs.Tools.{append_nil, by_bool, one, other}
 use Rattle.nk_plan.proofs.ParentLaw.{ups-append, mains-append, backs-append}
 use Rattle.nk_plan.proofs.Grows as child_side
 use Rattle.nk_plan.proofs.Replay.{child_replayed}
@@ -173,10 +173,6 @@ skips : (b : Bool) (s t : ChildState) → b ≡ true → s ≡ (if b then s else
 skips true s t e = refl
 skips false s t e = cc
 
-by_bool : {P : Type 0} (b : Bool) → (b ≡ true → P) → (b ≡ false → P) → P
-by_bool true p q = p refl
-by_bool false p q = q refl
-
 take_length : {A : Type 0} (n : ℕ) (xs : List A) → n ≤ length xs → length (take n xs) ≡ n
 take_length zero xs l = refl
 take_length (suc n) [] l = absurd (omega arith)
@@ -290,14 +286,6 @@ forward_stands c w px n cx =
     let F : ℕ → ℕ → Walk = λ a b.
     standing (parent_line c w.parent px) a (child_line c w.child cx) (length (ups_taken w.parent.journal)) (length w.child.sent) (length (mains_taken w.child.journal)) (length (mains_sent w.parent.journal)) (length (backs_taken w.child.journal)) b (length (backs_sent w.parent.journal)) in
     ap (λ a. F a (w.forwarded + 1)) e ∙ ap (λ b. F n b) f
-
-one : (a b : Bool) → (a && b) ≡ true → a ≡ true
-one true b h = refl
-one false b h = h
-
-other : (a b : Bool) → (a && b) ≡ true → b ≡ true
-other true b h = h
-other false b h = cc
 
 abbrev ends_at : ChannelPlan → Channel → List ParentStep → ℕ → List ChildStep → Channel
 ends_at c w px n cx = record { parent = parent_run c w.parent px; forwarded = w.forwarded + n; child = child_run c w.child cx }

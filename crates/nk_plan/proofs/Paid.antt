@@ -23,7 +23,7 @@ use Rattle.nk_plan.specs.Plan.{hop_at, hop_pieces}
 use Rattle.nk_plan.specs.declared.step.Phase.{Phase}
 use Rattle.nk_plan.specs.declared.step.Phase.TheVariants.{Closed, Ready, Asking, Follow, Body, Done}
 use Rattle.nk_plan.proofs.ParentLaw.{ups-append, backs-append, Keeps, InBody}
-use Rattle.nk_plan.proofs.Tools.{keeps_if, append_nil}
+use Rattle.nk_plan.proofs.Tools.{keeps_if, append_nil, by_bool}
 use Rattle.nk_plan.proofs.Merge.{prefix_of_take}
 use Rattle.nk_plan.proofs.Joined.{Adds, fetch_step_adds, up_journal, Joined, joined}
 use Rattle.std.proofs.lemmas.Int.{ints}
@@ -212,10 +212,6 @@ followed_good c (suc f) = good_mains_join (redirects_to c f) _ (followed_good c 
 question_good : (c : ChannelPlan) (f : ℕ) (b : Bool) → GoodMains (question c f b)
 question_good c f false = tt
 question_good c f true = (tt, tt)
-
-by_bool : {P : Type 0} (b : Bool) → (b ≡ true → P) → (b ≡ false → P) → P
-by_bool true p q = p refl
-by_bool false p q = q refl
 
 pub not_failing : (st : Status) (q : Option Status) → q ≡ None → (is_failure st ≡ true → q ≡ Some st) → is_failure st ≡ false
 not_failing st q e f = by_bool (is_failure st) (λ b. let x : q ≡ Some st = f b in absurd (cc)) (λ b. b)

@@ -1,20 +1,8 @@
 -- The walk: what can be placed may be placed, whatever the order, so the greedy walk places all that some order does.
-use Rattle.std.proofs.Common.{ℕ, suc, zero, ◌≡◌, ◌+◌, ◌-◌, ◌≤◌, ◌↔◌, refl, sym, subst, Bool, true, false, ◌&&◌, ◌⊎◌, inl, inr, nat_lt, List, [], ◌∷◌, length, arith}
+use Rattle.std.proofs.Common.{ℕ, suc, zero, ◌≡◌, ◌+◌, ◌-◌, ◌≤◌, ◌↔◌, refl, sym, subst, Bool, true, false, ◌⊎◌, inl, inr, nat_lt, List, [], ◌∷◌, length, arith}
 use Rattle.std.proofs.lemmas.Bool.Decides.{nat_tests}
-use Rattle.nk_plan.proofs.Tools.{keeps_if}
+use Rattle.nk_plan.proofs.Tools.{keeps_if, both, one, other}
 use Rattle.nk_plan.specs.Walk.{ParentBlock, ChildBlock, Walk, Turn, Parent, Forward, Child, may, may_parent, may_child, may_forward, can, rest, placed, none_left, is_zero, is_done, Places, CanPlace, items, greedy, places_all}
-
-both : (a b : Bool) → a ≡ true → b ≡ true → (a && b) ≡ true
-both true b p q = q
-both false b p q = p
-
-one : (a b : Bool) → (a && b) ≡ true → a ≡ true
-one true b h = refl
-one false b h = h
-
-other : (a b : Bool) → (a && b) ≡ true → b ≡ true
-other true b h = h
-other false b h = cc
 
 same_test : (a b : Bool) → (a ≡ true → b ≡ true) → (b ≡ true → a ≡ true) → a ≡ b
 same_test true b p q = sym (p refl)

@@ -1,5 +1,9 @@
 -- The laws, put together from the lemmas of the other files.
-use Rattle.std.proofs.Common.{ℕ, ◌≡◌, refl, sym, ◌∙◌, ap, subst, Bool, true, false, if◌then◌else◌, List}
+use Rattle.std.proofs.Common.{◌≤◌, Some, None, Option, arith, ℕ, ◌≡◌, refl, sym, ◌∙◌, ap, subst, Bool, true, false, if◌then◌else◌, List}
+use Rattle.nk_base.specs.declared.status.Target.{Target}
+use Rattle.nk_base.specs.Queue.{target_number}
+use Rattle.nk_plan.specs.declared.event.ChildEvent.{ChildEvent}
+use Rattle.nk_plan.specs.declared.event.ChildEvent.TheVariants.{Start, Bytes, Stop, Redirect1, Redirect3, Cancel}
 use Rattle.nk_plan.specs.declared.plan.ChannelPlan.{ChannelPlan}
 use Rattle.nk_plan.specs.declared.journal.ParentEntry.{ParentEntry}
 use Rattle.nk_plan.specs.declared.journal.ChildEntry.{ChildEntry}
@@ -14,13 +18,16 @@ use Rattle.nk_plan.specs.Child.{ChildState, child_after}
 use Rattle.nk_plan.specs.Channel.{Channel, channel_after}
 use Rattle.nk_plan.specs.Run.{state_of, trace_of, Down}
 use Rattle.nk_plan.specs.Ending.{ending_by, ending_of}
-use Rattle.nk_plan.specs.Laws.{LanesLaw, MergeLaw, RunLaw, HopLaw, FailureLaw, CountsLaw, SendsLaw, StateLaw, OrderRunsLaw, RunOrderLaw, EndingToldLaw, EndingLaw, CalmLaw, ClosedLaw}
+use Rattle.nk_plan.specs.Laws.{LanesLaw, MergeLaw, RunLaw, HopLaw, FailureLaw, CountsLaw, BoundsLaw, SendsLaw, StateLaw, OrderRunsLaw, RunOrderLaw, EndingToldLaw, EndingLaw, CalmLaw, ClosedLaw}
 use Rattle.nk_plan.proofs.Premises.{plan_ok, ranges_ok, ends_by_failure}
 use Rattle.nk_plan.proofs.Sent.{lane_law_of}
 use Rattle.nk_plan.proofs.ParentLaw.{lane_law}
 use Rattle.nk_plan.proofs.Merge.{TakesDown, merge}
 use Rattle.nk_plan.proofs.StartHop.{start_hop}
 use Rattle.nk_plan.proofs.Tells.{child_tells}
+use Rattle.nk_plan.proofs.LivelyQueue.{forced_by}
+use Rattle.nk_plan.proofs.Lively.{child_lively}
+use Rattle.nk_plan.proofs.Bounds.{child_bounded}
 use Rattle.nk_plan.proofs.Tally.{child_tally, journal_ending}
 use Rattle.nk_plan.proofs.Replay.{child_replayed, determined}
 use Rattle.nk_plan.proofs.Joined.{Joined, joined}
@@ -29,6 +36,7 @@ use Rattle.nk_plan.proofs.Orders.{run_is_order}
 use Rattle.nk_plan.proofs.Settled.{ending_told}
 use Rattle.nk_plan.proofs.CalmEnd.{calm_law_holds}
 use Rattle.nk_plan.proofs.Closed.{closed_run}
+use Rattle.nk_plan.proofs.Tools.{by_bool}
 
 pub lanes : LanesLaw
 lanes c p a (steps, e) = lane_law_of c (ups_taken p) (mains_sent p) (backs_sent p) (rw e at (lane_law c steps (plan_ok c a)))
@@ -64,6 +72,21 @@ failures c steps = let t = child_tells c steps in (sym t.first_is, t.drops, sym 
 pub counts : CountsLaw
 counts c steps = let t = child_tally c steps in (sym t.open_is, t.suspends_is, sym t.finished_is)
 
+forced_once_at_most : (r : Option (Target × ChildEvent)) → forced_by r ≤ 1
+forced_once_at_most None = omega arith
+forced_once_at_most (Some (t, Start code st)) = omega arith
+forced_once_at_most (Some (t, Bytes o p st)) = omega arith
+forced_once_at_most (Some (t, Stop st)) = omega arith
+forced_once_at_most (Some (t, Redirect1 h)) = omega arith
+forced_once_at_most (Some (t, Redirect3 h)) = omega arith
+forced_once_at_most (Some (t, Cancel st)) = omega arith
+
+pub bounds : BoundsLaw
+bounds c steps a =
+    let l = child_lively c steps (ranges_ok c a) in
+    let f : (child_after c steps).queue.forced ≡ forced_by (child_after c steps).running = l.forced_is in
+    (l.count_is, (let k = forced_once_at_most (child_after c steps).running in omega arith), λ t. child_bounded c steps (target_number t))
+
 pub sends : SendsLaw
 sends c steps = sym (child_tells c steps).sends_are
 
@@ -88,10 +111,6 @@ told c steps =
 
 pub endings_told : EndingToldLaw
 endings_told c steps a = let k = ending_told c steps (plan_ok c a) in (told c steps ∙ k.0, k.1)
-
-by_bool : {P : Type 0} (b : Bool) → (b ≡ true → P) → (b ≡ false → P) → P
-by_bool true p q = p refl
-by_bool false p q = q refl
 
 unopened : (b : Bool) (x : Ending) → b ≡ true → (if b then ending.Unopened else x) ≡ ending.Unopened
 unopened true x e = refl

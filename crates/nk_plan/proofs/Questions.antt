@@ -20,7 +20,7 @@ use Rattle.nk_plan.specs.Child.{main_events_of, note_main, step_main, back_hop, 
 use Rattle.nk_plan.specs.declared.event.ChildEvent.{ChildEvent}
 use Rattle.nk_plan.specs.declared.event.ChildEvent.TheVariants.{Start, Bytes, Stop, Redirect1, Redirect3, Cancel}
 use Rattle.nk_plan.specs.Event.{class_of}
-use Rattle.nk_plan.proofs.Tools.{keeps_if, append_nil, among_more, among_last}
+use Rattle.nk_plan.proofs.Tools.{keeps_if, append_nil, among_more, among_last, among_split}
 use Rattle.nk_plan.specs.Lanes.{Among}
 use Rattle.nk_plan.proofs.ChildLaw.{run_waiting, idle_empty, none_waits}
 use Rattle.nk_plan.proofs.Grows.{Grows, NoLane, plain_grows, main_grows, back_grows, noted_grows}
@@ -138,12 +138,6 @@ pub record Quiz (w : List ChildEvent) (q : Option ℕ) (sent : List UpMsg) (brok
 
 abbrev QuizAt : List MainMsg → List ChildEvent → ChildState → Type 0
 QuizAt tm pend s = Quiz (s.queue.waiting ++ pend) s.question s.sent s.broken tm
-
-among_split : (x m : UpMsg) (u : List UpMsg) → Among x (u ++ m ∷ []) → Among x u ⊎ (m ≡ x)
-among_split x m [] (inl e) = inr e
-among_split x m [] (inr h) = absurd h
-among_split x m (y ∷ u) (inl e) = inl (inl e)
-among_split x m (y ∷ u) (inr h) = elim (among_split x m u h) [ inl a ↦ inl (inr a) | inr b ↦ inr b ]
 
 verified_more : (h : ℕ) (u v : List UpMsg) → Verified h u → Verified h (u ++ v)
 verified_more h u v (st, a) = (st, among_more _ u v a)

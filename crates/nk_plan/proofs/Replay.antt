@@ -1,5 +1,5 @@
 -- The state that a run leaves is a function of its journal: a replay of the journal reaches it, and stays there.
-use Rattle.std.proofs.Common.{ℕ, zero, suc, ◌≡◌, ◌+◌, ◌≤◌, refl, sym, ◌∙◌, ap, subst, List, [], ◌∷◌, ◌++◌, length, true, ◌||◌, Option, Some, None, is_some, ◌⊎◌, inl, inr, if◌then◌else◌, nat_le, slice_get, ◌==◌, arith, append_assoc, ◌<◌, length-append, pos, int_lt}
+use Rattle.std.proofs.Common.{ℕ, zero, suc, ◌≡◌, ◌+◌, ◌≤◌, refl, sym, ◌∙◌, ap, subst, List, [], ◌∷◌, ◌++◌, length, true, ◌||◌, Option, Some, None, is_some, ◌⊎◌, inl, inr, if◌then◌else◌, nat_le, slice_get, ◌==◌, arith, append_assoc, length-append, pos, int_lt}
 use Rattle.nk_base.specs.declared.status.Status.{Status}
 use Rattle.nk_base.specs.declared.status.Target.{Target}
 use Rattle.nk_base.specs.declared.status.RetargetError.{RetargetError}
@@ -21,7 +21,7 @@ use Rattle.nk_plan.specs.Child.{step_main, back_events, step_back, of_hop, relea
 use Rattle.nk_plan.specs.declared.event.ChildEvent.{ChildEvent}
 use Rattle.nk_plan.specs.declared.event.ChildEvent.TheVariants.{Start, Bytes, Stop, Redirect1, Redirect3, Cancel}
 use Rattle.nk_plan.specs.Event.{class_of}
-use Rattle.nk_plan.proofs.Tools.{keeps_if, append_nil}
+use Rattle.nk_plan.proofs.Tools.{keeps_if, append_nil, le_or_more}
 use Rattle.nk_plan.specs.declared.journal.ParentEntry.{ParentEntry}
 use Rattle.nk_plan.specs.declared.step.ParentStep.{ParentStep}
 use Rattle.nk_plan.specs.declared.plan.Finish.{Finish as End}
@@ -212,11 +212,6 @@ reach c (x ∷ xs) rest j e =
             ap (λ (y : ChildState). replay_entry c y (slice_get j (length y.journal))) r.2 ∙ (ap (λ o. replay_entry c s o) g ∙ ap (λ y. child_step c y s) n),
           )
     ]
-
-le_or_more : (n m : ℕ) → (n ≤ m) ⊎ (m < n)
-le_or_more zero m = inl (omega arith)
-le_or_more (suc n) zero = inr (omega arith)
-le_or_more (suc n) (suc m) = elim (le_or_more n m) [ inl x ↦ inl (omega arith) | inr x ↦ inr (omega arith) ]
 
 stays : (c : ChannelPlan) (j : List ChildEntry) (s : ChildState) (k n : ℕ) → s.journal ≡ j → k ≤ n → replayed c j k ≡ s → replayed c j n ≡ s
 stays c j s k zero e l r = let z : k ≡ 0 = omega arith in rw z at r

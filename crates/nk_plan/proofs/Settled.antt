@@ -33,12 +33,13 @@ use Rattle.nk_plan.proofs.Joined.{Joined, joined, rest_after, run_trace}
 use Rattle.nk_plan.proofs.Lively.{child_lively, nothing_waits}
 use Rattle.nk_plan.proofs.LivelyQueue.{IsLively, FlushedBy, FlushOk, PostedOk}
 use Rattle.nk_plan.proofs.Heard.{Hears, parent_hears}
-use Rattle.nk_plan.proofs.Still.{none_has, zero_or, by_bool, unless, prefix_all, cut_stopped, channel_inv, due_none, reports_none, all_moved}
+use Rattle.nk_plan.proofs.Still.{none_has, zero_or, unless, prefix_all, cut_stopped, channel_inv, due_none, reports_none, all_moved}
 use Rattle.nk_plan.proofs.Asking.{still}
 use Rattle.nk_plan.proofs.Tally.{Tallied, child_tally, stop_last}
 use Rattle.nk_plan.proofs.Credit.{read_of, backs_size, events_size, run_size, GoodMains, GoodBacks, OwesAll, TookGood, child_owes}
 use Rattle.nk_plan.proofs.Paid.{covered, body_good, keeps_body, body_waits}
 use Rattle.nk_plan.specs.declared.step.ChildStep.TheVariants as child
+use Rattle.nk_plan.proofs.Tools.{by_bool}
 
 -- What a drain tries is all that may be enabled
 

@@ -17,7 +17,7 @@ use Rattle.nk_plan.specs.Channel.{Channel, main_lane, back_lane, up_lane, channe
 use Rattle.nk_plan.specs.declared.step.Step.{Step}
 use Rattle.nk_plan.specs.declared.step.Step.TheVariants.{Act, Fetch, Up, Forward, Main, Back, Release, Begin, Finish}
 use Rattle.nk_plan.specs.Enabled.{phase_enabled, body_enabled}
-use Rattle.nk_plan.proofs.Tools.{append_nil}
+use Rattle.nk_plan.proofs.Tools.{append_nil, by_bool}
 use Rattle.nk_plan.proofs.ParentLaw.{lane_law}
 use Rattle.nk_plan.proofs.Order.{Around, Holds, strip, stops}
 use Rattle.nk_plan.proofs.Merge.{run_inv, start_inv, fed, prefix_of_take}
@@ -61,10 +61,6 @@ ends_at c a pend w s (pl, l, n, f, j, h, b, z) = z
 -- whether a stop or a failed opening is among all that was sent
 abbrev pub sent_all : Channel → Bool
 sent_all w = stops (strip (main_events (mains_sent w.parent.journal) ++ back_events (backs_sent w.parent.journal))) false
-
-pub by_bool : {P : Type 0} (b : Bool) → (b ≡ true → P) → (b ≡ false → P) → P
-by_bool true p q = p refl
-by_bool false p q = q refl
 
 pub zero_or : (n : ℕ) → (n ≡ 0) ⊎ (0 < n)
 zero_or zero = inl refl

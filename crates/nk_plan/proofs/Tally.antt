@@ -22,7 +22,7 @@ use Rattle.nk_plan.specs.Child.{main_events_of, note_main, step_main, back_hop, 
 use Rattle.nk_plan.specs.declared.event.ChildEvent.{ChildEvent}
 use Rattle.nk_plan.specs.declared.event.ChildEvent.TheVariants.{Start, Bytes, Stop, Redirect1, Redirect3, Cancel}
 use Rattle.nk_plan.specs.Event.{class_of}
-use Rattle.nk_plan.proofs.Tools.{keeps_if}
+use Rattle.nk_plan.proofs.Tools.{keeps_if, by_bool, or_zero, swap_if}
 use Rattle.std.proofs.lemmas.Bool.Decides.{eqb_tells}
 use Rattle.nk_plan.specs.Ending.{ends_in_stop, ending_by}
 use Rattle.nk_plan.specs.declared.ends.Ending.{Ending}
@@ -41,12 +41,6 @@ abbrev pub journal_ending : ChannelPlan → ChildState → Ending
 journal_ending c s = ending_by c s.journal s.trace s
 
 -- What a journal tells of the calls of the page
-
-swap_if : (a b : Bool) (n : ℕ) → (if a then suc (if b then suc n else n) else (if b then suc n else n)) ≡ (if b then suc (if a then suc n else n) else (if a then suc n else n))
-swap_if true true n = refl
-swap_if true false n = refl
-swap_if false true n = refl
-swap_if false false n = refl
 
 count_then : (f : ChildEntry → Bool) (j : List ChildEntry) (e : ChildEntry) → count_of f (j ++ e ∷ []) ≡ (if f e then suc (count_of f j) else count_of f j)
 count_then f [] e = refl
@@ -162,10 +156,6 @@ resume_tally s p k =
       finished_is = rw (count_then is_finish s.journal child.Resume) k.finished_is;
       stop_is = k.stop_is;
     }
-
-or_zero : (a b : Bool) → (a || b) ≡ false → b ≡ false
-or_zero true b h = cc
-or_zero false b h = h
 
 retarget_tally : (o : Option RetargetError) (n : ℕ) (s : ChildState) → Tallied s → Tallied (call_retarget o n s)
 retarget_tally (Some e) n s k = same_tally _ s refl refl refl refl k
@@ -307,10 +297,6 @@ ends_has (shown.Start code s ∷ []) e = cc
 ends_has (shown.Start code s ∷ d ∷ t) e = ends_has (d ∷ t) e
 ends_has (shown.Bytes o p ∷ []) e = cc
 ends_has (shown.Bytes o p ∷ d ∷ t) e = ends_has (d ∷ t) e
-
-by_bool : {P : Type 0} (b : Bool) → (b ≡ true → P) → (b ≡ false → P) → P
-by_bool true p q = p refl
-by_bool false p q = q refl
 
 trace_ends : (c : ChannelPlan) (f : ℕ) (q : Option Status) (cut : Bool) (t : List Entry) → SeqTrace c f q cut t → has_stop t ≡ true → ends_in_stop t ≡ true
 trace_ends c f q cut [] h e = cc

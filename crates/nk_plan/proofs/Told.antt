@@ -1,5 +1,5 @@
 -- What a child told its parent: that it was opened, is suspended or has stopped.
-use Rattle.std.proofs.Common.{ℕ, suc, ◌≡◌, ◌+◌, refl, sym, ◌∙◌, subst, List, [], ◌∷◌, ◌++◌, length, Bool, true, false, ◌||◌, Option, Some, None, is_some, ◌⊎◌, inl, inr, if◌then◌else◌, nat_lt, nat_le, slice_get, ◌==◌, arith, ◌<◌, ◌-◌}
+use Rattle.std.proofs.Common.{ℕ, suc, ◌≡◌, ◌+◌, refl, sym, ◌∙◌, subst, List, [], ◌∷◌, ◌++◌, length, Bool, true, false, ◌||◌, Option, Some, None, is_some, inl, inr, if◌then◌else◌, nat_lt, nat_le, slice_get, ◌==◌, arith, ◌<◌, ◌-◌}
 use Rattle.nk_base.specs.declared.status.Status.{Status}
 use Rattle.nk_base.specs.declared.status.Target.{Target}
 use Rattle.nk_base.specs.declared.status.RetargetError.{RetargetError}
@@ -18,7 +18,7 @@ use Rattle.nk_plan.specs.Child.{main_events_of, note_main, step_main, back_hop, 
 use Rattle.nk_plan.specs.declared.event.ChildEvent.{ChildEvent}
 use Rattle.nk_plan.specs.declared.event.ChildEvent.TheVariants.{Start, Bytes, Stop, Redirect1, Redirect3, Cancel}
 use Rattle.nk_plan.specs.Event.{class_of}
-use Rattle.nk_plan.proofs.Tools.{keeps_if, append_nil, among_more, among_last}
+use Rattle.nk_plan.proofs.Tools.{keeps_if, append_nil, among_more, among_last, among_split, or_zero}
 use Rattle.std.proofs.lemmas.Bool.{eqb-true, lt-ltb}
 use Rattle.std.proofs.lemmas.Bool.Decides.{eqb_tells}
 use Rattle.nk_plan.specs.Lanes.{Among}
@@ -100,12 +100,6 @@ plain_deletes (up.Verify h st) p e = cc
 plain_deletes (up.BytesRead n) p e = cc
 plain_deletes up.Deleting p e = p
 
-among_split : (x m : UpMsg) (u : List UpMsg) → Among x (u ++ m ∷ []) → Among x u ⊎ (m ≡ x)
-among_split x m [] (inl e) = inr e
-among_split x m [] (inr h) = absurd h
-among_split x m (y ∷ u) (inl e) = inl (inl e)
-among_split x m (y ∷ u) (inr h) = elim (among_split x m u h) [ inl a ↦ inl (inr a) | inr b ↦ inr b ]
-
 says_plain : (o t : Bool) (n : ℕ) (u : List UpMsg) (r : Option (Target × ChildEvent)) (m : UpMsg) → Plain m → Told o t n u r → Told o t n (u ++ m ∷ []) r
 says_plain o t n u r m p k = record {
   open_said = λ e. among_more up.Open u (m ∷ []) (k.open_said e);
@@ -159,10 +153,6 @@ two_less n p e = elim (eqb_tells n 1) [
 
 not_below : (n : ℕ) → n ≡ 0 → nat_lt 0 n ≡ false
 not_below n e = rw e refl
-
-or_zero : (a b : Bool) → (a || b) ≡ false → b ≡ false
-or_zero true b h = cc
-or_zero false b h = h
 
 -- a suspend is said where the count was 0
 suspend_told : (o t : Bool) (n : ℕ) (u : List UpMsg) (r : Option (Target × ChildEvent)) → Told o t n u r → Told o t (n + 1) (u ++ (if n == 0 then up.Suspend ∷ [] else [])) r

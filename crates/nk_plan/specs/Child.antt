@@ -52,7 +52,7 @@ pub record ChildState : Type 0 where
   -- the number of the page's next call, and how many callbacks have returned
   pub next : ℕ
   pub finished : ℕ
-  -- how many suspends are not resumed, and how many data callbacks have step_begin
+  -- how many suspends are not resumed, and how many data callbacks have begun
   pub suspends : ℕ
   pub data_begun : ℕ
   pub hop : ℕ
@@ -140,9 +140,13 @@ run_event c t (Stop st) s =
 run_event c t (Redirect1 h) s = record s { question = Some h; journal = s.journal ++ child.RunRedirect1 t h ∷ [] }
 run_event c t (Redirect3 h) s = record s { hop = suc s.hop; journal = s.journal ++ child.RunRedirect3 t h ∷ [] }
 run_event c t (Cancel st) s =
-    record s { kept = merged s.kept st; sent = s.sent ++ cancel_messages s.kept st; journal = s.journal ++ child.RunCancel t st ∷ [] }
+    record s {
+      kept = merged s.kept st;
+      sent = s.sent ++ cancel_messages s.kept st;
+      journal = s.journal ++ child.RunCancel t st ∷ [];
+    }
 
--- an event is offer_event to the queue from this target, and runs at once where the queue says so
+-- an event is offered to the queue from this target, and runs at once where the queue says so
 abbrev pub offer_event : ChannelPlan → Target → ChildEvent → ChildState → ChildState
 offer_event c here e s =
     if runs_now class_of s.queue e here
@@ -174,7 +178,8 @@ call_resume s =
     }
 
 abbrev pub call_cancel : Status → ChildState → ChildState
-call_cancel st s = record s { kept = merged s.kept st; sent = s.sent ++ up.Cancel st ∷ []; journal = s.journal ++ child.Cancel st ∷ [] }
+call_cancel st s =
+    record s { kept = merged s.kept st; sent = s.sent ++ up.Cancel st ∷ []; journal = s.journal ++ child.Cancel st ∷ [] }
 
 -- why the data of an opened channel that has not stopped is not retargeted
 abbrev pub later_refusal : Bool → Option Status → Option ℕ → Option RetargetError

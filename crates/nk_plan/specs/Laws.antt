@@ -1,6 +1,8 @@
 -- The laws over the definitions, each the contract of a public function. None has a premise but that the plan is one that
 -- `ChannelPlan::new` accepts, where it needs that.
-use Rattle.std.specs.Prelude.{ℕ, ◌≡◌, ◌+◌, ◌↔◌, true, false, List, [], Some, None}
+use Rattle.std.specs.Prelude.{ℕ, ◌≡◌, ◌+◌, ◌↔◌, true, false, List, [], Some, None, ◌≤◌, length}
+use Rattle.nk_base.specs.declared.status.Target.{Target}
+use Rattle.nk_base.specs.Queue.{posted_to}
 use Rattle.nk_plan.specs.declared.plan.ChannelPlan.{ChannelPlan}
 use Rattle.nk_plan.specs.declared.journal.ParentEntry.{ParentEntry}
 use Rattle.nk_plan.specs.declared.journal.ChildEntry.{ChildEntry}
@@ -59,6 +61,13 @@ CountsLaw = (c : ChannelPlan) (steps : List ChildStep) →
     (s.opened ≡ has_open s.journal)
     × (s.suspends + count_of is_resume s.journal ≡ count_of is_suspend s.journal)
     × (s.finished ≡ count_of is_finish s.journal)
+
+-- the queue is suspended as often as the child is, its events are queued by force at most once, and no target has more
+-- posted tasks than the journal has entries
+abbrev pub BoundsLaw : Type 0
+BoundsLaw = (c : ChannelPlan) (steps : List ChildStep) → Accepted c →
+    let s = child_after c steps in
+    (s.queue.count ≡ s.suspends) × (s.queue.forced ≤ 1) × ((t : Target) → posted_to s.queue t ≤ length s.journal)
 
 -- the entries name all that was sent
 abbrev pub SendsLaw : Type 0

@@ -39,7 +39,16 @@ pub record ParentState : Type 0 where
   pub journal : List ParentEntry
 
 abbrev pub new_parent : ChannelPlan → ParentState
-new_parent c = record { phase = Closed; hop = 0; followed = 0; piece = 0; kept = None; suspended = false; credit = pos c.window; journal = [] }
+new_parent c = record {
+  phase = Closed;
+  hop = 0;
+  followed = 0;
+  piece = 0;
+  kept = None;
+  suspended = false;
+  credit = pos c.window;
+  journal = [];
+}
 
 -- A message of the up lane
 
@@ -158,7 +167,12 @@ fetch_hop c s (Some (hop.Response head pieces end trailers)) = give_start c s s.
 
 abbrev pub complete_redirect : ParentState → ParentState
 complete_redirect s =
-    record s { phase = Ready; hop = suc s.hop; followed = suc s.followed; journal = s.journal ++ entry.SentMain (main.Redirect3 s.hop) ∷ [] }
+    record s {
+      phase = Ready;
+      hop = suc s.hop;
+      followed = suc s.followed;
+      journal = s.journal ++ entry.SentMain (main.Redirect3 s.hop) ∷ [];
+    }
 
 -- the child has answered: after a failure the redirect is the start, else it is followed
 abbrev pub fetch_follow : ChannelPlan → ParentState → Option Status → Option Hop → ParentState

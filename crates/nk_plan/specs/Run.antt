@@ -115,10 +115,18 @@ pub record Down (c : ChannelPlan) (p : List ParentEntry) (j : List ChildEntry) (
 
 -- a block, by what it took and sent
 abbrev pub parent_block : List ParentEntry → ParentBlock
-parent_block block = record { takes_up = has_some (ups_taken block); mains = length (mains_sent block); backs = length (backs_sent block) }
+parent_block block = record {
+  takes_up = has_some (ups_taken block);
+  mains = length (mains_sent block);
+  backs = length (backs_sent block);
+}
 
 abbrev pub child_block : List ChildEntry → List UpMsg → ChildBlock
-child_block block ups = record { takes_main = has_some (mains_taken block); takes_back = has_some (backs_taken block); ups = length ups }
+child_block block ups = record {
+  takes_main = has_some (mains_taken block);
+  takes_back = has_some (backs_taken block);
+  ups = length ups;
+}
 
 -- the blocks of these steps, of which the newest stands first; a step that was not enabled has an empty block
 abbrev pub parent_blocks : ChannelPlan → List ParentStep → List ParentBlock

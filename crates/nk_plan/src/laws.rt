@@ -1,7 +1,7 @@
 // The laws over the definitions. A law is a function that does nothing: its contract is what is proved, for every plan,
 // every run and every order of steps.
 
-ghost use Rattle.nk_plan.specs.Laws.{LanesLaw, MergeLaw, RunLaw, HopLaw, FailureLaw, CountsLaw, SendsLaw, StateLaw, OrderRunsLaw, RunOrderLaw, GreedyLaw, KeepLaw, StuckLaw, EntriesLaw, EndingToldLaw, EndingLaw, CalmLaw, ClosedLaw};
+ghost use Rattle.nk_plan.specs.Laws.{LanesLaw, MergeLaw, RunLaw, HopLaw, FailureLaw, CountsLaw, BoundsLaw, SendsLaw, StateLaw, OrderRunsLaw, RunOrderLaw, GreedyLaw, KeepLaw, StuckLaw, EntriesLaw, EndingToldLaw, EndingLaw, CalmLaw, ClosedLaw};
 
 /// What a parent sends obeys the lane law, whatever messages come from the page's side.
 pub fn lanes_law()
@@ -17,10 +17,12 @@ pub fn merge_law()
 {}
 
 /// What a child's journal says: its first failure, its final hop and its counts are those of the
-/// child, no piece runs behind a failure, and its entries name all that the child sent.
+/// child, no piece runs behind a failure, it bounds the counts of the queue, and its entries name
+/// all that the child sent.
 pub fn journal_law()
     ensures failure { FailureLaw }
     ensures counts { CountsLaw }
+    ensures bounds { BoundsLaw }
     ensures sends { SendsLaw }
 {}
 

@@ -1,7 +1,7 @@
 -- The lines of the journals, one for each entry. This project's own.
 use Rattle.std.specs.Prelude.{ℕ, List, [], ◌∷◌, ◌++◌, codes, decimal}
 use Rattle.nk_base.specs.declared.status.Target.{Target}
-use Rattle.nk_base.specs.declared.status.Target.TheVariants as target
+use Rattle.nk_base.specs.declared.status.Target.TheVariants as place
 use Rattle.nk_base.specs.declared.status.RetargetError.{RetargetError}
 use Rattle.nk_base.specs.declared.status.RetargetError.TheVariants as refusal
 use Rattle.nk_plan.specs.declared.journal.ParentEntry.{ParentEntry}
@@ -25,11 +25,11 @@ forwarded_line count = line (codes "forwarded" ∷ decimal count ∷ [])
 abbrev pub worker_text : ℕ → List ℕ
 worker_text worker = codes "w" ++ decimal worker
 
--- where an event runs
+-- where an event runs; no event runs on the thread of the background lane
 abbrev pub target_text : Target → List ℕ
-target_text target.Main = codes "main"
-target_text (target.Worker worker) = worker_text worker
-target_text target.Back = codes "back"
+target_text place.Main = codes "main"
+target_text (place.Worker worker) = worker_text worker
+target_text place.Back = codes "back"
 
 -- why a channel was not retargeted
 abbrev pub refusal_text : RetargetError → List ℕ
@@ -53,18 +53,18 @@ child_line (child.Verdict hop status) = line (codes "c verdict" ∷ decimal hop 
 child_line (child.TookMain message) = line (codes "c main" ∷ main_text message ∷ [])
 child_line (child.TookBack message) = line (codes "c back" ∷ back_text message ∷ [])
 child_line (child.Release count) = line (codes "c release" ∷ decimal count ∷ [])
-child_line (child.RunStart t code status) =
-    line (codes "c run" ∷ target_text t ∷ codes "start" ∷ code_text code ∷ status_text status ∷ [])
-child_line (child.RunBytes t offset size) =
-    line (codes "c run" ∷ target_text t ∷ codes "bytes" ∷ decimal offset ∷ decimal size ∷ [])
-child_line (child.RunDrop t offset status) =
-    line (codes "c run" ∷ target_text t ∷ codes "drop" ∷ decimal offset ∷ status_text status ∷ [])
-child_line (child.RunStop t status) = line (codes "c run" ∷ target_text t ∷ codes "stop" ∷ status_text status ∷ [])
-child_line (child.RunRedirect1 t hop) = line (codes "c run" ∷ target_text t ∷ codes "redirect1" ∷ decimal hop ∷ [])
-child_line (child.RunRedirect3 t hop) = line (codes "c run" ∷ target_text t ∷ codes "redirect3" ∷ decimal hop ∷ [])
-child_line (child.RunCancel t status) = line (codes "c run" ∷ target_text t ∷ codes "cancel" ∷ status_text status ∷ [])
+child_line (child.RunStart target code status) =
+    line (codes "c run" ∷ target_text target ∷ codes "start" ∷ code_text code ∷ status_text status ∷ [])
+child_line (child.RunBytes target offset size) =
+    line (codes "c run" ∷ target_text target ∷ codes "bytes" ∷ decimal offset ∷ decimal size ∷ [])
+child_line (child.RunDrop target offset status) =
+    line (codes "c run" ∷ target_text target ∷ codes "drop" ∷ decimal offset ∷ status_text status ∷ [])
+child_line (child.RunStop target status) = line (codes "c run" ∷ target_text target ∷ codes "stop" ∷ status_text status ∷ [])
+child_line (child.RunRedirect1 target hop) = line (codes "c run" ∷ target_text target ∷ codes "redirect1" ∷ decimal hop ∷ [])
+child_line (child.RunRedirect3 target hop) = line (codes "c run" ∷ target_text target ∷ codes "redirect3" ∷ decimal hop ∷ [])
+child_line (child.RunCancel target status) = line (codes "c run" ∷ target_text target ∷ codes "cancel" ∷ status_text status ∷ [])
 child_line (child.HandOver from to) = line (codes "c over" ∷ target_text from ∷ target_text to ∷ [])
-child_line (child.Ended t) = line (codes "c ended" ∷ target_text t ∷ [])
-child_line (child.Complete t) = line (codes "c complete" ∷ target_text t ∷ [])
-child_line (child.Finish t) = line (codes "c finish" ∷ target_text t ∷ [])
+child_line (child.Ended target) = line (codes "c ended" ∷ target_text target ∷ [])
+child_line (child.Complete target) = line (codes "c complete" ∷ target_text target ∷ [])
+child_line (child.Finish target) = line (codes "c finish" ∷ target_text target ∷ [])
 child_line (child.Prepend status) = line (codes "c prepend" ∷ status_text status ∷ [])

@@ -12,7 +12,7 @@ words ws = join_with_byte 32 ws
 abbrev pub line : List (List ℕ) → List ℕ
 line ws = words ws ++ 10 ∷ []
 
--- a code: decimal, with leading zeros where that has fewer than three digits
+-- a code: decimal, and where that has fewer than three digits, leading zeros up to three
 unfoldable pub code_text : ℕ → List ℕ
 code_text code = replicate (3 - length (decimal code)) 48 ++ decimal code
 

@@ -20,6 +20,7 @@ impl Printer {
         self.child_journal(&end.child)
     }
 
+    /// Prints a parent's journal.
     fn parent_journal(&mut self, journal: &ParentJournal) -> Result<(), Memory>
         ensures { OnOk result (self.new ≡ self.old ++ flat_map parent_line journal.now) }
     {
@@ -29,6 +30,7 @@ impl Printer {
         Ok(())
     }
 
+    /// Prints a child's journal.
     fn child_journal(&mut self, journal: &ChildJournal) -> Result<(), Memory>
         ensures { OnOk result (self.new ≡ self.old ++ flat_map child_line journal.now) }
     {

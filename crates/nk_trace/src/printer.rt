@@ -21,8 +21,7 @@ fn hex_byte(byte: u8) -> [u8; 2]
     ]
 }
 
-/// A text as far as it is printed. After want of memory the text may be cut anywhere. This
-/// project's own.
+/// A text as far as it is printed. After want of memory it may be cut at any byte. This project's own.
 #[derive(Drop)]
 pub struct Printer {
     bytes: Vec<u8>,
@@ -54,7 +53,7 @@ impl Printer {
     }
 
     /// Prints these bytes as they are.
-    pub fn bytes(&mut self, bytes: &[u8]) -> Result<(), Memory>
+    pub(crate) fn bytes(&mut self, bytes: &[u8]) -> Result<(), Memory>
         ensures { OnOk result (self.new ≡ self.old ++ bytes.now) }
     {
         match self.bytes.extend_from_slice(bytes) {
@@ -63,7 +62,7 @@ impl Printer {
         }
     }
 
-    /// Prints these words.
+    /// Prints a text as it is.
     pub fn word(&mut self, word: &str) -> Result<(), Memory>
         ensures { OnOk result (self.new ≡ self.old ++ word.now) }
     {
@@ -78,9 +77,9 @@ impl Printer {
         self.word(buffer.format(number))
     }
 
-    /// Prints a code.
+    /// Prints a code, with leading zeros up to three digits.
     #[tactic(auto, unfolding(crate::specs::Words::code_text))]
-    pub fn code(&mut self, code: u16) -> Result<(), Memory>
+    pub(crate) fn code(&mut self, code: u16) -> Result<(), Memory>
         ensures { OnOk result (self.new ≡ self.old ++ code_text code) }
     {
         let mut buffer = Buffer::new();
@@ -94,7 +93,7 @@ impl Printer {
 
     /// Prints bytes, as two hexadecimal digits each.
     #[tactic(auto, using(std::proofs::lemmas::List::flat_map_more, std::proofs::lemmas::List::take_more))]
-    pub fn hex(&mut self, bytes: &[u8]) -> Result<(), Memory>
+    pub(crate) fn hex(&mut self, bytes: &[u8]) -> Result<(), Memory>
         ensures { OnOk result (self.new ≡ self.old ++ hex_text bytes.now) }
     {
         for byte in bytes {
@@ -103,7 +102,7 @@ impl Printer {
         Ok(())
     }
 
-    /// Prints a kind, as two hexadecimal digits.
+    /// Prints the kind of a message, as two hexadecimal digits.
     pub fn kind(&mut self, kind: u8) -> Result<(), Memory>
         ensures { OnOk result (self.new ≡ self.old ++ digits_of kind) }
     {

@@ -373,44 +373,23 @@ fn prints_what_the_page_and_failures_bring_about(rt: HostRuntime) -> Result<(), 
 #[test]
 fn prints_the_other_messages(rt: HostRuntime) -> Result<(), Fail> {
     let alloc = rt.alloc();
-    let failure = Status::NET_RESET;
-    let head = Head::new(404, one_trailer(alloc)?)?;
-    let status = Status::OK;
-    let trailers = one_trailer(alloc)?;
-    let mut printer = Printer::new(alloc);
-    printer.main_message(&MainMsg::FailedOpen {
-        hop: 0,
-        status: failure,
-    })?;
-    printer.word(", ")?;
-    printer.main_message(&MainMsg::Redirect1 { hop: 7, code: 302 })?;
-    printer.word(", ")?;
-    printer.main_message(&MainMsg::Redirect3 { hop: 7 })?;
-    printer.word(", ")?;
-    printer.back_message(&BackMsg::Start {
+    let status = Status::NET_RESET;
+    let main = vec![in alloc;
+        MainMsg::FailedOpen { hop: 0, status },
+        MainMsg::Redirect1 { hop: 7, code: 302 },
+        MainMsg::Redirect3 { hop: 7 },
+    ]?;
+    let start = BackMsg::Start {
         hop: 1,
         status,
-        head,
-    })?;
-    printer.word(", ")?;
-    printer.back_message(&BackMsg::Stop {
-        hop: 0,
-        status,
-        trailers,
-    })?;
-    printer.word(", kind ")?;
-    printer.kind(0xf2)?;
-    let text =
-        "failed 0 804b0014, redirect1 7 302, redirect3 7, bstart 1 00000000 404 1, stop 0 00000000 1, kind f2";
-    assert_eq!(rt; printer.into_bytes().as_slice(), text.as_bytes());
-    Ok(())
-}
-
-#[test]
-fn prints_what_a_parent_takes(rt: HostRuntime) -> Result<(), Fail> {
-    let alloc = rt.alloc();
-    let status = Status::NET_RESET;
-    let messages = [
+        head: Head::new(404, one_trailer(alloc)?)?,
+    };
+    let stop = BackMsg::Stop {
+        hop: 1,
+        status: Status::OK,
+        trailers: one_trailer(alloc)?,
+    };
+    let up = [
         UpMsg::Suspend,
         UpMsg::Resume,
         UpMsg::Cancel { status },
@@ -418,10 +397,18 @@ fn prints_what_a_parent_takes(rt: HostRuntime) -> Result<(), Fail> {
         UpMsg::BytesRead { count: 131_072 },
     ];
     let mut printer = Printer::new(alloc);
-    for message in messages {
+    for message in main {
+        printer.parent_entry(&ParentEntry::SentMain(message))?;
+    }
+    printer.parent_entry(&ParentEntry::SentBack(start))?;
+    printer.parent_entry(&ParentEntry::SentBack(stop))?;
+    for message in up {
         printer.parent_entry(&ParentEntry::Took(message))?;
     }
-    let text = "p suspend\np resume\np cancel 804b0014\np verify 2 804b0014\np read 131072\n";
+    printer.kind(0xf2)?;
+    let text = "p send failed 0 804b0014\np send redirect1 7 302\np send redirect3 7\n\
+        p send bstart 1 804b0014 404 1\np send stop 1 00000000 1\n\
+        p suspend\np resume\np cancel 804b0014\np verify 2 804b0014\np read 131072\nf2";
     assert_eq!(rt; printer.into_bytes().as_slice(), text.as_bytes());
     Ok(())
 }
