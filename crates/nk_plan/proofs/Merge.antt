@@ -6,6 +6,8 @@ use Rattle.nk_base.specs.declared.field.Head.{Head}
 use Rattle.nk_base.specs.declared.message.MainMsg.{MainMsg}
 use Rattle.nk_base.specs.declared.message.BackMsg.{BackMsg}
 use Rattle.nk_base.specs.declared.message.UpMsg.{UpMsg}
+use Rattle.nk_base.specs.Hold.{with_hop}
+use Rattle.nk_base.proofs.Released.{is_among-with_hop}
 use Rattle.nk_plan.specs.declared.plan.ChannelPlan.{ChannelPlan}
 use Rattle.nk_plan.specs.declared.plan.StartLane.{StartLane}
 use Rattle.nk_plan.specs.declared.plan.Hop.{Hop}
@@ -64,6 +66,22 @@ all_other r g (m ∷ ms) n a =
     let e : (r == back_hop m) ≡ false = rw a.0 n in
     rw e (ap (λ t. m ∷ t) (all_other r g ms n a.1))
 
+-- a hop that is released is among the released ones
+own_released : (r : ℕ) (hops : List ℕ) (g : ℕ) → (r == g) ≡ true → is_among (with_hop r hops) g ≡ true
+own_released r hops g t = is_among-with_hop r hops g ∙ rw t (either (is_among hops g))
+  where
+    either : (b : Bool) → (b || true) ≡ true
+    either true = refl
+    either false = refl
+
+-- and of all others nothing changes
+other_released : (r : ℕ) (hops : List ℕ) (g : ℕ) → (r == g) ≡ false → is_among (with_hop r hops) g ≡ is_among hops g
+other_released r hops g t = is_among-with_hop r hops g ∙ rw t (neither (is_among hops g))
+  where
+    neither : (b : Bool) → (b || false) ≡ b
+    neither true = refl
+    neither false = refl
+
 released_own : (c : ChannelPlan) (r : ℕ) (md : List MainMsg) (bd : List BackMsg) (s : ChildState) (i : Whole c md bd s)
     → s.hold.report ≡ Some r → (r == i.hop) ≡ true → Whole c md bd (step_release c (Some r) s)
 unfolding with_hold
@@ -103,7 +121,7 @@ released_own c r md bd s i o t =
       ends_is = i.ends_is;
       final_at = i.final_at;
       some = i.some;
-      due = λ e. inr (inl (rw t refl));
+      due = λ e. inr (inl (own_released r s.hold.released i.hop t));
       none = λ e. (none, (i.none e).1);
       mains = i.mains;
       backs = i.backs;
@@ -141,7 +159,7 @@ released_other c r md bd s i o t =
       due = λ e. elim (i.due e) [
         | inl w ↦ inl w
         | inr y ↦ elim y [
-          | inl q ↦ inr (inl (rw (t, h) q))
+          | inl q ↦ inr (inl (other_released r s.hold.released i.hop t ∙ rw h q))
           | inr q ↦
               let q1 : Some i.hop ≡ Some r = sym q ∙ (sym (ap (λ (x : Hold). x.report) h) ∙ o) in
               let q2 : i.hop ≡ r = cc in
@@ -155,7 +173,7 @@ released_other c r md bd s i o t =
         last = i.waits.last;
         report = tt;
         released = λ e.
-            let g : is_among a.hold.released i.hop ≡ true = rw (t, h) at e in
+            let g : is_among a.hold.released i.hop ≡ true = rw h at (sym (other_released r s.hold.released i.hop t) ∙ e) in
             let x : Over i.um × (a.hold.kept ≡ []) = i.waits.released g in (x.0, rest ∙ (ap (λ (y : Hold). y.kept) h ∙ x.1));
         kept_of = rw rest all;
         back_of = i.waits.back_of;

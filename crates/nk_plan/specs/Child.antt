@@ -8,6 +8,7 @@ use Rattle.nk_base.specs.declared.message.MainMsg.{MainMsg}
 use Rattle.nk_base.specs.declared.message.BackMsg.{BackMsg}
 use Rattle.nk_base.specs.declared.message.UpMsg.{UpMsg}
 use Rattle.nk_base.specs.declared.message.Entry.{Entry}
+pub use Rattle.nk_base.specs.Hold.{Hold, hold_with, back_hop, is_among, of_hop, not_of_hop, released_hold}
 use Rattle.nk_base.specs.Queue.{Queue, Taken, Event, Over, Ended, empty_queue, same_target, is_target, target_number, runs_now, running_now, appended, suspended_once, resumed_once, completed, forced_once, unforced, prepended, cleared, retargeted, taken, flush_ended, handed_over}
 use Rattle.nk_base.specs.Status.{ok}
 use Rattle.nk_plan.specs.declared.plan.ChannelPlan.{ChannelPlan}
@@ -37,13 +38,6 @@ use Rattle.nk_plan.specs.declared.plan.Act.TheVariants as act
 use Rattle.nk_plan.specs.declared.journal.ChildEntry.TheVariants as child
 use Rattle.nk_plan.specs.declared.step.ChildStep.TheVariants as step
 
--- What the background half holds back: messages of hops whose start is not known to be queued.
--- It keeps the hops that were released, the hop that the next release is for, and the messages in the order they came.
-pub record Hold : Type 0 where
-  pub released : List ℕ
-  pub report : Option ℕ
-  pub kept : List BackMsg
-
 -- what a child is, between two steps
 pub record ChildState : Type 0 where
   pub opened : Bool
@@ -72,8 +66,8 @@ pub record ChildState : Type 0 where
 
 -- where starts travel on the background lane, hop 0 is released from the beginning
 abbrev pub new_hold : StartLane → Hold
-new_hold lane.Main = record { released = []; report = None; kept = [] }
-new_hold lane.Back = record { released = 0 ∷ []; report = None; kept = [] }
+new_hold lane.Main = hold_with []
+new_hold lane.Back = hold_with (0 ∷ [])
 
 abbrev pub new_child : ChannelPlan → ChildState
 new_child c = record {
@@ -279,12 +273,6 @@ note_main l (main.Redirect3 h) s = note_redirect l (suc h) s
 abbrev pub step_main : ChannelPlan → MainMsg → ChildState → ChildState
 step_main c m s = note_main c.start m (offer_all c target.Main (main_events_of m) s)
 
-abbrev pub back_hop : BackMsg → ℕ
-back_hop (back.Start h st head) = h
-back_hop (back.StartSent h) = h
-back_hop (back.Bytes h st o p) = h
-back_hop (back.Stop h st trailers) = h
-
 -- the events of a message of the background lane, and of several
 abbrev pub back_events_of : BackMsg → List ChildEvent
 back_events_of (back.Start h st head) = Start head.code st ∷ []
@@ -295,10 +283,6 @@ back_events_of (back.Stop h st trailers) = Stop st ∷ []
 abbrev pub back_events : List BackMsg → List ChildEvent
 back_events [] = []
 back_events (m ∷ ms) = back_events_of m ++ back_events ms
-
-abbrev pub is_among : List ℕ → ℕ → Bool
-is_among [] h = false
-is_among (x ∷ xs) h = (x == h) || is_among xs h
 
 abbrev pub keep_back : BackMsg → ChildState → ChildState
 keep_back m s = record s { hold = record s.hold { kept = s.hold.kept ++ m ∷ [] } }
@@ -313,18 +297,6 @@ step_back c (back.StartSent h) s = s
 step_back c (back.Start h st head) s = hold_back c (back.Start h st head) s
 step_back c (back.Bytes h st o p) s = hold_back c (back.Bytes h st o p) s
 step_back c (back.Stop h st trailers) s = hold_back c (back.Stop h st trailers) s
-
--- the messages of a hop, and the others
-abbrev pub of_hop : ℕ → List BackMsg → List BackMsg
-of_hop h [] = []
-of_hop h (m ∷ ms) = if h == back_hop m then m ∷ of_hop h ms else of_hop h ms
-
-abbrev pub not_of_hop : ℕ → List BackMsg → List BackMsg
-not_of_hop h [] = []
-not_of_hop h (m ∷ ms) = if h == back_hop m then not_of_hop h ms else m ∷ not_of_hop h ms
-
-abbrev pub released_hold : ℕ → Hold → Hold
-released_hold h hold = record { released = h ∷ hold.released; report = None; kept = not_of_hop h hold.kept }
 
 abbrev pub step_release : ChannelPlan → Option ℕ → ChildState → ChildState
 step_release c None s = s
