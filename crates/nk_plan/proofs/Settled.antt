@@ -177,7 +177,7 @@ stopped_or_not c steps v r n q = elim (zero_or (channel_after c steps).child.sus
   ]
 ]
 
--- the words of an state_ending, by its parts
+-- the words of an ending, by its parts
 ending_parts : Bool → Bool → Bool → Bool → Bool → Bool → Ending
 ending_parts closed stopped opened suspended runs due =
     if closed then Unopened else (if stopped then Stopped else (if opened && (suspended && (not runs && not due)) then Suspended else Going))
@@ -217,7 +217,7 @@ not_going c steps v r n q g =
           suspended_ends c.closed s.stopped s.opened (nat_lt 0 s.suspends) (is_some s.running) _ o.0 (lt-ltb 0 s.suspends x) (idle_is s.running (idle_run s.running (λ t. q (Finish t)))) o.1 g1
     ]
 
--- the journal tells the state_ending
+-- the journal tells the ending
 
 due_same : (s : ChildState) (n : ℕ) (o : Option Control) → n ≡ s.finished → comes_at n o ≡ is_due s o
 due_same s n None e = refl

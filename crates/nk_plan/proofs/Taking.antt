@@ -45,7 +45,7 @@ AllOf g (m ∷ ms) = (back_hop m ≡ g) × AllOf g ms
 abbrev pub Over : List MainMsg → Type 0
 Over um = strip (main_events um) ≡ []
 
--- once hop g is note_report, no event is left on the main lane
+-- once hop g is reported, no event is left on the main lane
 abbrev pub ReportsLast : ChannelPlan → ℕ → List MainMsg → Type 0
 ReportsLast c g [] = Unit {0}
 ReportsLast c g (main.Start h st head ∷ um) = (h ≡ g → Over um) × ReportsLast c g um
@@ -68,7 +68,7 @@ abbrev pub Will : ChannelPlan → ℕ → List MainMsg → Type 0
 Will c g [] = ⊥
 Will c g (m ∷ um) = Reporter c g m ⊎ Will c g um
 
--- hop g will be note_report, was released, or is note_report
+-- hop g will be reported, was released, or is reported
 abbrev pub Due : ChannelPlan → ℕ → Hold → List MainMsg → Type 0
 Due c g hold um = Will c g um ⊎ ((is_among hold.released g ≡ true) ⊎ (hold.report ≡ Some g))
 
@@ -428,7 +428,7 @@ pub not_empty : {A : Type 0} (xs : List A) (x : A) → xs ++ x ∷ [] ≡ [] →
 not_empty [] x e = cc
 not_empty (y ∷ xs) x e = cc
 
--- the state after a message of the background lane was with_entry, with what is to come, and before it is hold_back or keep_back
+-- the state after a message of the background lane was entered, with what is to come, and before it passes or is kept
 pub record Noted (c : ChannelPlan) (m : BackMsg) (md : List MainMsg) (bd : List BackMsg) (s : ChildState) : Type 0 where
   pub around : Around
   pub hop : ℕ

@@ -24,15 +24,25 @@ abbrev pub comes_at : ℕ → Option Control → Bool
 comes_at n None = false
 comes_at n (Some control) = nat_le control.after n
 
--- The state_ending of a channel whose child has this journal and trace, and has come to this state.
--- It is suspended where it is opened, more suspends than resumes were made, nothing runs, and no control is due.
+-- whether a channel that has not stopped is left suspended: it is opened and suspended, nothing runs, and no control is due
+abbrev pub is_left_suspended : (opened suspended runs due : Bool) → Bool
+is_left_suspended opened suspended runs due = opened && (suspended && (not runs && not due))
+
+-- The ending of a channel whose child has this journal and trace, and has come to this state.
+-- It is suspended where more suspends than resumes were made.
 abbrev pub ending_by : ChannelPlan → List ChildEntry → List Entry → ChildState → Ending
 ending_by c j t s =
     if c.closed then Unopened
     else (if ends_in_stop t then Stopped
-    else (if has_open j && (nat_lt (count_of is_resume j) (count_of is_suspend j) && (not (is_some s.running) && not (comes_at (count_of is_finish j) (slice_get c.controls s.next)))) then Suspended else Going))
+    else (if is_left_suspended
+    (has_open j)
+    (nat_lt (count_of is_resume j) (count_of is_suspend j))
+    (is_some s.running)
+    (comes_at (count_of is_finish j) (slice_get c.controls s.next))
+    then Suspended
+    else Going))
 
--- the state_ending, told by the journal alone
+-- the ending, told by the journal alone
 abbrev pub ending_of : ChannelPlan → List ChildEntry → Ending
 ending_of c j = ending_by c j (trace_of c j) (state_of c j)
 
@@ -41,4 +51,6 @@ abbrev pub state_ending : ChannelPlan → ChildState → Ending
 state_ending c s =
     if c.closed then Unopened
     else (if s.stopped then Stopped
-    else (if s.opened && (nat_lt 0 s.suspends && (not (is_some s.running) && not (is_due s (slice_get c.controls s.next)))) then Suspended else Going))
+    else (if is_left_suspended s.opened (nat_lt 0 s.suspends) (is_some s.running) (is_due s (slice_get c.controls s.next))
+    then Suspended
+    else Going))

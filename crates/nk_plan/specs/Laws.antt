@@ -28,7 +28,8 @@ use Rattle.nk_plan.specs.Telling.{new_telling, sends_from, parent_entries, child
 
 -- whatever messages of the up lane a parent took, strays included, what it sent obeys the lane law
 abbrev pub LanesLaw : Type 0
-LanesLaw = (c : ChannelPlan) (p : List ParentEntry) → Accepted c → IsParentRun c p → LaneLaw c (ups_taken p) (mains_sent p) (backs_sent p)
+LanesLaw = (c : ChannelPlan) (p : List ParentEntry) → Accepted c → IsParentRun c p
+    → LaneLaw c (ups_taken p) (mains_sent p) (backs_sent p)
 
 -- The merge
 
@@ -90,7 +91,10 @@ OrderRunsLaw = (c : ChannelPlan) (steps : List Step) →
 -- and every run comes from one
 abbrev pub RunOrderLaw : Type 0
 RunOrderLaw = (c : ChannelPlan) (p : List ParentEntry) (j : List ChildEntry) (n : ℕ) → Run c p j n
-    → (steps : List Step) × ((channel_after c steps).parent.journal ≡ p) × ((channel_after c steps).child.journal ≡ j) × ((channel_after c steps).forwarded ≡ n)
+    → (steps : List Step)
+    × ((channel_after c steps).parent.journal ≡ p)
+    × ((channel_after c steps).child.journal ≡ j)
+    × ((channel_after c steps).forwarded ≡ n)
 
 -- The walk
 
@@ -109,7 +113,9 @@ StuckLaw = (w : Walk) → ((t : Turn) → can t w ≡ false) → places_all w �
 -- the blocks of two runs can be placed exactly where the greedy walk places the entries of their journals, one by one
 abbrev pub EntriesLaw : Type 0
 EntriesLaw = (c : ChannelPlan) (xs : List ParentStep) (ys : List ChildStep) (n : ℕ) →
-    places_all (walk_start (parent_entries (parent_after c xs).journal) n (child_entries new_telling (child_after c ys).journal)) ≡ true
+    let p = (parent_after c xs).journal in
+    let j = (child_after c ys).journal in
+    places_all (walk_start (parent_entries p) n (child_entries new_telling j)) ≡ true
     ↔ CanPlace (walk_start (parent_blocks c xs) n (child_blocks c ys))
 
 -- The ending, over the steps of a whole channel
