@@ -4,3 +4,4 @@ pub mod Opening
 pub mod Loads
 pub mod Sequential
 pub mod Inputs
+pub mod Rows
