@@ -3,9 +3,8 @@
 
 use nk_io::{StdSink, StdSource};
 use nk_run::{refuse_words, run_alone};
-use std::env;
-use std::io;
 use std::process::ExitCode;
+use std::{env, io};
 
 /// The status of want of memory.
 const WANT_OF_MEMORY: u8 = 5;
@@ -30,11 +29,5 @@ fn main(rt: HostRuntime) -> ExitCode {
     };
     let mut input = StdSource::new(rt.stdin());
     let mut out = StdSink::new(rt.stdout());
-    ExitCode::from(run_alone(
-        alloc,
-        words.as_slice(),
-        &mut input,
-        &mut out,
-        &mut err,
-    ))
+    ExitCode::from(run_alone(alloc, words.as_slice(), &mut input, &mut out, &mut err))
 }
