@@ -1,6 +1,6 @@
 // Calls on a hold, and that they find the memory that there is.
 
-use crate::{Held, Hold, Kept, Released};
+use crate::{Held, Hold, Released};
 use nk_base::{BackMsg, Piece, Status};
 use std::alloc::Global;
 use std::test::Fail;
@@ -20,15 +20,18 @@ fn bytes(alloc: Global, hop: u32, offset: u64) -> Result<BackMsg, Fail> {
 fn data_waits_for_its_start_and_keeps_its_order(rt: HostRuntime) -> Result<(), Fail> {
     let alloc = rt.alloc();
     let mut hold = Hold::new(alloc);
-    hold.reserve(8)?;
+    hold.reserve(1)?;
     assert!(rt; matches!(hold.back(BackMsg::StartSent { hop: 0 }), Held::Noted));
     for (hop, offset) in [(1, 0), (0, 2), (1, 2)] {
+        hold.reserve(1)?;
         assert!(rt; matches!(hold.back(bytes(alloc, hop, offset)?), Held::Kept));
     }
+    hold.reserve(hold.kept())?;
     assert!(rt; matches!(hold.release(), Released::Idle));
     hold.start_queued(0);
     hold.start_queued(1);
     assert_eq!(rt; hold.report(), Some(1));
+    hold.reserve(hold.kept())?;
     let Released::Messages(mut kept) = hold.release() else {
         return Err(Fail::from("nothing was released"));
     };

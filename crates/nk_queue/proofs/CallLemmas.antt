@@ -5,6 +5,7 @@ use Rattle.nk_base.specs.Queue.{Queue, Taken, runs_now, taken, take_spare}
 use Rattle.nk_base.specs.Queue as queue
 use Rattle.nk_queue.specs.declared.laws.call.QueueCall.{QueueCall}
 use Rattle.nk_queue.specs.declared.laws.call.QueueCall.TheVariants as call
+use Rattle.nk_queue.specs.Answers.{taken_by}
 use Rattle.nk_queue.specs.Calls.{MayCall, MayCallAll, call_leaves, call_spare}
 
 module _ {E : Type 0} (class : E → Class) where
@@ -34,7 +35,7 @@ module _ {E : Type 0} (class : E → Class) where
   call_spare_roomier q less more (call.Reserve n) roomier = omega arith
   call_spare_roomier q less more (call.Offer e here) roomier = grind arith
   call_spare_roomier q less more (call.Prepend e) roomier = omega arith
-  call_spare_roomier q less more (call.Take here) roomier = take_spare_roomier (taken class q here q.waiting) less more roomier
+  call_spare_roomier q less more (call.Take here) roomier = take_spare_roomier (taken_by class q here) less more roomier
   call_spare_roomier q less more call.Clear roomier = omega arith
   call_spare_roomier q less more call.Suspend roomier = roomier
   call_spare_roomier q less more call.Resume roomier = roomier

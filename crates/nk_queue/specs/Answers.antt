@@ -16,6 +16,10 @@ offer_answer class q e here =
     then offer.Queued
     else (if runs_now class q e here then offer.RunNow e else offer.Posted (target_in q.data_target (class e)))
 
+-- what a flush by this target takes of what waits
+abbrev pub taken_by : {E : Type 0} → (E → Class) → Queue E → Target → Taken E
+taken_by class q here = taken class q here q.waiting
+
 -- what a take answers
 abbrev pub take_answer : {E : Type 0} → Taken E → TakeAnswer E
 take_answer (queue.Event e rest) = take.Event e
@@ -35,11 +39,11 @@ OfferCases class q e here (offer.Posted t) new =
 -- a take by its answer
 abbrev pub TakeCases : {E : Type 0} → (E → Class) → Queue E → Target → TakeAnswer E → Queue E → Type 0
 TakeCases class q here (take.Event e) new =
-    (rest : List _) × (taken class q here q.waiting ≡ queue.Event e rest) × (new ≡ record q { waiting = rest })
+    (rest : List _) × (taken_by class q here ≡ queue.Event e rest) × (new ≡ record q { waiting = rest })
 TakeCases class q here (take.HandOver t) new =
-    (taken class q here q.waiting ≡ queue.Over t) × (new ≡ handed_over q t)
+    (taken_by class q here ≡ queue.Over t) × (new ≡ handed_over q t)
 TakeCases class q here take.Ended new =
-    (taken class q here q.waiting ≡ queue.Ended) × (new ≡ flush_ended q)
+    (taken_by class q here ≡ queue.Ended) × (new ≡ flush_ended q)
 
 -- the event that a flush takes, if it takes one
 abbrev pub event_of : {E : Type 0} → Taken E → Option E

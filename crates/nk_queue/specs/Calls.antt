@@ -3,12 +3,12 @@
 use Rattle.std.specs.Prelude.{ℕ, ◌<◌, ◌+◌, ◌-◌, Bool, true, false, ◌||◌, if◌then◌else◌, nat_lt, max, List, [], ◌∷◌, length, IsTrue}
 use Rattle.std.below.core.specs.declared.int.usize.TheConstants.{MAX}
 use Rattle.nk_base.specs.declared.queue.Class.{Class}
-use Rattle.nk_base.specs.Queue.{Queue, IsTarget, HasTarget, MayPost, target_in, is_target, is_posted, runs_now, offer_leaves, posted_to, suspended_once, resumed_once, resume_answer, completed, complete_answer, forced_once, unforced, unforced_answer, prepended, cleared, retargeted, taken, take_leaves, take_spare}
+use Rattle.nk_base.specs.Queue.{Queue, IsTarget, HasTarget, MayPost, target_in, is_target, is_posted, runs_now, offer_leaves, posted_to, suspended_once, resumed_once, resume_answer, completed, complete_answer, forced_once, unforced, unforced_answer, prepended, cleared, retargeted, take_leaves, take_spare}
 use Rattle.nk_queue.specs.declared.laws.call.QueueCall.{QueueCall}
 use Rattle.nk_queue.specs.declared.laws.call.QueueCall.TheVariants as call
 use Rattle.nk_queue.specs.declared.laws.call.QueueAnswer.{QueueAnswer}
 use Rattle.nk_queue.specs.declared.laws.call.QueueAnswer.TheVariants as answer
-use Rattle.nk_queue.specs.Answers.{offer_answer, take_answer}
+use Rattle.nk_queue.specs.Answers.{offer_answer, take_answer, taken_by}
 
 -- whether a call asks for room
 abbrev pub is_reserve : {E : Type 0} → QueueCall E → Bool
@@ -61,7 +61,7 @@ module _ {E : Type 0} (class : E → Class) where
   call_answer q call.StartForced = answer.Done
   call_answer q (call.EndForced here) = answer.Began (unforced_answer q)
   call_answer q (call.Prepend e) = answer.Done
-  call_answer q (call.Take here) = answer.Took (take_answer (taken class q here q.waiting))
+  call_answer q (call.Take here) = answer.Took (take_answer (taken_by class q here))
   call_answer q call.Clear = answer.Done
   call_answer q (call.SetDataTarget t) = answer.Done
   call_answer q call.Flushing = answer.Flushing q.flushing
@@ -79,7 +79,7 @@ module _ {E : Type 0} (class : E → Class) where
   call_leaves q call.StartForced = forced_once q
   call_leaves q (call.EndForced here) = unforced q here
   call_leaves q (call.Prepend e) = prepended q e
-  call_leaves q (call.Take here) = take_leaves q (taken class q here q.waiting)
+  call_leaves q (call.Take here) = take_leaves q (taken_by class q here)
   call_leaves q call.Clear = cleared q
   call_leaves q (call.SetDataTarget t) = retargeted q t
   call_leaves q call.Flushing = q
@@ -97,7 +97,7 @@ module _ {E : Type 0} (class : E → Class) where
   call_spare q spare call.StartForced = spare
   call_spare q spare (call.EndForced here) = spare
   call_spare q spare (call.Prepend e) = spare - 1
-  call_spare q spare (call.Take here) = take_spare (taken class q here q.waiting) spare
+  call_spare q spare (call.Take here) = take_spare (taken_by class q here) spare
   call_spare q spare call.Clear = spare + length q.waiting
   call_spare q spare (call.SetDataTarget t) = spare
   call_spare q spare call.Flushing = spare

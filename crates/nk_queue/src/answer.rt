@@ -3,7 +3,7 @@
 use nk_base::Target;
 
 /// What an offer answers. This project's own, after `ChannelEventQueue::RunOrEnqueue`.
-#[derive(Drop)]
+#[derive(Debug, Drop, PartialEq, Eq)]
 pub enum Offer<E> {
     /// The event runs now, as the first of a flush by the target that offered it.
     RunNow(E),
@@ -14,7 +14,7 @@ pub enum Offer<E> {
 }
 
 /// What a take by the flush under way answers. This project's own, after `ChannelEventQueue::TakeEvent`.
-#[derive(Drop)]
+#[derive(Debug, Drop, PartialEq, Eq)]
 pub enum Taken<E> {
     /// The first event, which is to run now.
     Event(E),

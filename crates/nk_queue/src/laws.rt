@@ -7,6 +7,8 @@ ghost use Rattle.nk_queue.specs.Calls.{MayCallAll, call_answers, calls_leave};
 mod body;
 mod call;
 mod plain;
+#[cfg(test)]
+mod tests;
 
 pub use body::QueueBody;
 pub use call::{QueueAnswer, QueueCall};
@@ -31,9 +33,9 @@ pub fn answers_of<E: Classed + Drop, B: QueueBody<E>>(
     body: &mut B,
     calls: Vec<QueueCall<E>>,
 ) -> Result<Vec<QueueAnswer<E>>, Memory>
-    requires { MayCallAll E.class (B.content body.old).state (B.content body.old).spare calls.items }
-    ensures answers { IfOk result (λ answers. answers.items ≡ call_answers E.class (B.content body.old).state calls.items) }
-    ensures state { OnOk result ((B.content body.new).state ≡ calls_leave E.class (B.content body.old).state calls.items) }
+    requires { MayCallAll E.class (B.state body.old) (B.spare body.old) calls.items }
+    ensures answers { IfOk result (λ answers. answers.items ≡ call_answers E.class (B.state body.old) calls.items) }
+    ensures state { OnOk result (B.state body.new ≡ calls_leave E.class (B.state body.old) calls.items) }
 {
     let mut answers = Vec::new(alloc);
     for call in calls {
@@ -52,13 +54,13 @@ pub fn same_answers<E: Classed + Drop, L: QueueBody<E>, R: QueueBody<E>>(
     left_calls: Vec<QueueCall<E>>,
     right_calls: Vec<QueueCall<E>>,
 ) -> Result<(Vec<QueueAnswer<E>>, Vec<QueueAnswer<E>>), Memory>
-    requires one_state { (L.content left.old).state ≡ (R.content right.old).state }
+    requires one_state { L.state left.old ≡ R.state right.old }
     requires one_list { left_calls.items ≡ right_calls.items }
-    requires left { MayCallAll E.class (L.content left.old).state (L.content left.old).spare left_calls.items }
-    requires right { MayCallAll E.class (R.content right.old).state (R.content right.old).spare right_calls.items }
+    requires left { MayCallAll E.class (L.state left.old) (L.spare left.old) left_calls.items }
+    requires right { MayCallAll E.class (R.state right.old) (R.spare right.old) right_calls.items }
     ensures same_answers { IfOk result (λ answers. answers.0.items ≡ answers.1.items) }
-    ensures of_the_machine { IfOk result (λ answers. answers.0.items ≡ call_answers E.class (L.content left.old).state left_calls.items) }
-    ensures same_state { OnOk result ((L.content left.new).state ≡ (R.content right.new).state) }
+    ensures of_the_machine { IfOk result (λ answers. answers.0.items ≡ call_answers E.class (L.state left.old) left_calls.items) }
+    ensures same_state { OnOk result (L.state left.new ≡ R.state right.new) }
 {
     let left_answers = answers_of(alloc, left, left_calls)?;
     let right_answers = answers_of(alloc, right, right_calls)?;

@@ -2,9 +2,9 @@
 
 ghost use Rattle.std.specs.Prelude.{◌≡◌, ◌+◌, ◌-◌, ◌<◌, ◌≤◌, ◌||◌, length, IsTrue, OnOk, OnErr, nat_lt, slice_index, if◌then◌else◌};
 ghost use Rattle.std.specs.Option.{option_copied};
-ghost use Rattle.nk_base.specs.Queue.{LegalQueue, IsTarget, HasTarget, MayPost, empty_queue, target_number, target_in, is_target, has_some, is_busy, is_posted, runs_now, offer_leaves, posted_to, raised, suspended_once, resumed_once, resume_answer, completed, complete_answer, forced_once, unforced, unforced_answer, prepended, cleared, retargeted, taken, take_leaves, take_spare};
+ghost use Rattle.nk_base.specs.Queue.{LegalQueue, IsTarget, HasTarget, MayPost, empty_queue, target_number, target_in, is_target, has_some, is_busy, is_posted, runs_now, offer_leaves, posted_to, raised, suspended_once, resumed_once, resume_answer, completed, complete_answer, forced_once, unforced, unforced_answer, prepended, cleared, retargeted, take_leaves, take_spare};
 ghost use Rattle.nk_chain.specs.Chain.{items_of};
-ghost use Rattle.nk_queue.specs.Answers.{offer_answer, take_answer, OfferCases, TakeCases, event_of, first_event};
+ghost use Rattle.nk_queue.specs.Answers.{offer_answer, take_answer, OfferCases, TakeCases, taken_by, event_of, first_event};
 
 use crate::answer::{Offer, Taken};
 use nk_base::{Class, Classed, Memory, Target};
@@ -190,9 +190,9 @@ impl<E: Classed> EventQueue<E> {
 
     /// The event that a take by `here` gives.
     pub fn next(&self, here: Target) -> Option<&E>
-        ensures { option_copied result ≡ event_of (taken E.class self.now.state here self.now.state.waiting) }
+        ensures { option_copied result ≡ event_of (taken_by E.class self.now.state here) }
     {
-        if self.suspended || self.forced > 0 {
+        if self.forced > 0 || self.suspended {
             return None;
         }
         match front(&self.waiting) {
@@ -332,10 +332,10 @@ impl<E: Classed> EventQueue<E> {
         requires here { IsTarget here }
         requires flushing { IsTrue (is_target self.old.state.flushing here) }
         requires posts { MayPost E.class self.old.state self.old.state.waiting usize.MAX }
-        ensures answer { result ≡ take_answer (taken E.class self.old.state here self.old.state.waiting) }
-        ensures state { self.new.state ≡ take_leaves self.old.state (taken E.class self.old.state here self.old.state.waiting) }
+        ensures answer { result ≡ take_answer (taken_by E.class self.old.state here) }
+        ensures state { self.new.state ≡ take_leaves self.old.state (taken_by E.class self.old.state here) }
         ensures cases { TakeCases E.class self.old.state here result self.new.state }
-        ensures spare { self.new.spare ≡ take_spare (taken E.class self.old.state here self.old.state.waiting) self.old.spare }
+        ensures spare { self.new.spare ≡ take_spare (taken_by E.class self.old.state here) self.old.spare }
     {
         if self.suspended || self.forced > 0 {
             self.flushing = None;

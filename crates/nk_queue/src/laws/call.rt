@@ -4,7 +4,7 @@ use crate::answer::{Offer, Taken};
 use nk_base::Target;
 
 /// A call of a queue. This project's own.
-#[derive(Drop)]
+#[derive(Debug, Drop, PartialEq, Eq)]
 pub enum QueueCall<E> {
     Reserve(usize),
     Offer(E, Target),
@@ -24,7 +24,7 @@ pub enum QueueCall<E> {
 }
 
 /// What a call answers. This project's own.
-#[derive(Drop)]
+#[derive(Debug, Drop, PartialEq, Eq)]
 pub enum QueueAnswer<E> {
     /// The call answers nothing.
     Done,

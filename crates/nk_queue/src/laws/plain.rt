@@ -2,10 +2,10 @@
 // fields with no invariant, and serves to show that the rules alone decide the answers.
 
 ghost use Rattle.std.specs.Prelude.{◌≡◌, ◌+◌, ◌-◌, ◌<◌, ◌≤◌, ◌||◌, IfOk, OnOk, OnErr, IsTrue, true, slice_index, nat_lt, if◌then◌else◌};
-ghost use Rattle.nk_base.specs.Queue.{MayPost, empty_queue, target_number, target_in, is_busy, is_posted, runs_now, has_some, first_target, may_flush, offer_leaves, posted_to, raised, suspended_once, resumed_once, resume_answer, completed, complete_answer, unforced, unforced_answer, taken, take_leaves, take_spare};
-ghost use Rattle.nk_queue.specs.Answers.{offer_answer, take_answer};
+ghost use Rattle.nk_base.specs.Queue.{MayPost, empty_queue, target_number, target_in, is_busy, is_posted, runs_now, has_some, first_target, may_flush, offer_leaves, posted_to, raised, suspended_once, resumed_once, resume_answer, completed, complete_answer, unforced, unforced_answer, take_leaves, take_spare};
+ghost use Rattle.nk_queue.specs.Answers.{offer_answer, take_answer, taken_by};
 ghost use Rattle.nk_queue.specs.Calls.{MayCall, call_answer, call_leaves, call_spare, is_reserve};
-ghost use Rattle.nk_queue.specs.Plain.{roomy_of};
+ghost use Rattle.nk_queue.specs.Plain.{state_of, room_of};
 
 use crate::answer::{Offer, Taken};
 use crate::laws::body::QueueBody;
@@ -41,7 +41,7 @@ fn raise(posted: &mut [usize; 18], t: Target)
 impl<E: Classed> PlainQueue<E> {
     /// An empty queue that is not suspended.
     pub fn new(alloc: Global) -> Self
-        ensures { (roomy_of result).state ≡ empty_queue }
+        ensures { state_of result ≡ empty_queue }
     {
         PlainQueue {
             waiting: VecDeque::new(alloc),
@@ -55,7 +55,7 @@ impl<E: Classed> PlainQueue<E> {
     }
 
     fn first_target(&self) -> Option<Target>
-        ensures { result ≡ first_target E.class (roomy_of self.now).state self.now.waiting.items }
+        ensures { result ≡ first_target E.class (state_of self.now) self.now.waiting.items }
     {
         match self.waiting.front() {
             None => None,
@@ -64,13 +64,13 @@ impl<E: Classed> PlainQueue<E> {
     }
 
     fn offer(&mut self, e: E, here: Target) -> Offer<E>
-        requires room { 0 < (roomy_of self.old).spare }
-        requires posts { IsTrue (is_posted E.class (roomy_of self.old).state e here)
-            → posted_to (roomy_of self.old).state (target_in self.old.data_target (E.class e)) < usize.MAX }
-        ensures answer { result ≡ offer_answer E.class (roomy_of self.old).state e here }
-        ensures state { (roomy_of self.new).state ≡ offer_leaves E.class (roomy_of self.old).state e here }
-        ensures spare { (roomy_of self.new).spare
-            ≡ (if runs_now E.class (roomy_of self.old).state e here then (roomy_of self.old).spare else (roomy_of self.old).spare - 1) }
+        requires room { 0 < room_of self.old }
+        requires posts { IsTrue (is_posted E.class (state_of self.old) e here)
+            → posted_to (state_of self.old) (target_in self.old.data_target (E.class e)) < usize.MAX }
+        ensures answer { result ≡ offer_answer E.class (state_of self.old) e here }
+        ensures state { state_of self.new ≡ offer_leaves E.class (state_of self.old) e here }
+        ensures spare { room_of self.new
+            ≡ (if runs_now E.class (state_of self.old) e here then room_of self.old else room_of self.old - 1) }
     {
         let target = target_of(self.data_target, e.class());
         let waits = self.forced > 0
@@ -92,9 +92,10 @@ impl<E: Classed> PlainQueue<E> {
 
     fn resume(&mut self) -> Option<Target>
         requires counted { 0 < self.old.count }
-        requires posts { MayPost E.class (roomy_of self.old).state self.old.waiting.items usize.MAX }
-        ensures answer { result ≡ resume_answer E.class (roomy_of self.old).state }
-        ensures state { roomy_of self.new ≡ record (roomy_of self.old) { state = resumed_once E.class (roomy_of self.old).state } }
+        requires posts { MayPost E.class (state_of self.old) self.old.waiting.items usize.MAX }
+        ensures answer { result ≡ resume_answer E.class (state_of self.old) }
+        ensures state { state_of self.new ≡ resumed_once E.class (state_of self.old) }
+        ensures spare { room_of self.new ≡ room_of self.old }
     {
         self.count -= 1;
         if self.count > 0 {
@@ -113,9 +114,9 @@ impl<E: Classed> PlainQueue<E> {
     }
 
     fn try_flush(&mut self, here: Target) -> bool
-        ensures answer { result ≡ may_flush (roomy_of self.old).state self.old.suspended self.old.forced }
+        ensures answer { result ≡ may_flush (state_of self.old) self.old.suspended self.old.forced }
         ensures state { self.new
-            ≡ (if may_flush (roomy_of self.old).state self.old.suspended self.old.forced
+            ≡ (if may_flush (state_of self.old) self.old.suspended self.old.forced
             then record self.old { flushing = Some here } else self.old) }
     {
         let begins = self.forced == 0
@@ -129,9 +130,10 @@ impl<E: Classed> PlainQueue<E> {
     }
 
     fn complete(&mut self, here: Target) -> bool
-        requires { 0 < posted_to (roomy_of self.old).state here }
-        ensures answer { result ≡ complete_answer (roomy_of self.old).state }
-        ensures state { roomy_of self.new ≡ record (roomy_of self.old) { state = completed (roomy_of self.old).state here } }
+        requires { 0 < posted_to (state_of self.old) here }
+        ensures answer { result ≡ complete_answer (state_of self.old) }
+        ensures state { state_of self.new ≡ completed (state_of self.old) here }
+        ensures spare { room_of self.new ≡ room_of self.old }
     {
         self.posted[number(here)] -= 1;
         if self.count > 0 {
@@ -143,18 +145,19 @@ impl<E: Classed> PlainQueue<E> {
 
     fn end_forced(&mut self, here: Target) -> bool
         requires { 0 < self.old.forced }
-        ensures answer { result ≡ unforced_answer (roomy_of self.old).state }
-        ensures state { roomy_of self.new ≡ record (roomy_of self.old) { state = unforced (roomy_of self.old).state here } }
+        ensures answer { result ≡ unforced_answer (state_of self.old) }
+        ensures state { state_of self.new ≡ unforced (state_of self.old) here }
+        ensures spare { room_of self.new ≡ room_of self.old }
     {
         self.forced -= 1;
         self.try_flush(here)
     }
 
     fn take(&mut self, here: Target) -> Taken<E>
-        requires { MayPost E.class (roomy_of self.old).state self.old.waiting.items usize.MAX }
-        ensures answer { result ≡ take_answer (taken E.class (roomy_of self.old).state here self.old.waiting.items) }
-        ensures state { (roomy_of self.new).state ≡ take_leaves (roomy_of self.old).state (taken E.class (roomy_of self.old).state here self.old.waiting.items) }
-        ensures spare { (roomy_of self.new).spare ≡ take_spare (taken E.class (roomy_of self.old).state here self.old.waiting.items) (roomy_of self.old).spare }
+        requires { MayPost E.class (state_of self.old) self.old.waiting.items usize.MAX }
+        ensures answer { result ≡ take_answer (taken_by E.class (state_of self.old) here) }
+        ensures state { state_of self.new ≡ take_leaves (state_of self.old) (taken_by E.class (state_of self.old) here) }
+        ensures spare { room_of self.new ≡ take_spare (taken_by E.class (state_of self.old) here) (room_of self.old) }
     {
         match self.first_target() {
             Some(target) if !self.suspended && self.forced == 0 => {
@@ -175,14 +178,16 @@ impl<E: Classed> PlainQueue<E> {
 }
 
 impl<E: Classed + Drop> QueueBody<E> for PlainQueue<E> {
-    ghost content = { roomy_of };
+    ghost state = { state_of };
+
+    ghost spare = { room_of };
 
     fn call(&mut self, call: QueueCall<E>) -> Result<QueueAnswer<E>, Memory>
-        requires { MayCall E.class (roomy_of self.old).state (roomy_of self.old).spare call }
-        ensures answer { IfOk result (λ answer. answer ≡ call_answer E.class (roomy_of self.old).state call) }
-        ensures state { OnOk result ((roomy_of self.new).state ≡ call_leaves E.class (roomy_of self.old).state call) }
-        ensures spare { OnOk result (call_spare E.class (roomy_of self.old).state (roomy_of self.old).spare call ≤ (roomy_of self.new).spare) }
-        ensures err { OnErr result ((roomy_of self.new).state ≡ (roomy_of self.old).state) }
+        requires { MayCall E.class (state_of self.old) (room_of self.old) call }
+        ensures answer { IfOk result (λ answer. answer ≡ call_answer E.class (state_of self.old) call) }
+        ensures state { OnOk result (state_of self.new ≡ call_leaves E.class (state_of self.old) call) }
+        ensures spare { OnOk result (call_spare E.class (state_of self.old) (room_of self.old) call ≤ room_of self.new) }
+        ensures err { OnErr result (state_of self.new ≡ state_of self.old) }
         ensures only_reserve { OnErr result (is_reserve call ≡ true) }
     {
         match call {

@@ -8,9 +8,9 @@ abbrev pub invariant-loop-call : goal.invariant-loop-call
 invariant-loop-call g l = record {
   can_next : (goal.iterator-loop-call g).can_next l.call-iterator;
   is_finite : (goal.iterator-loop-call g).is_finite l.call-iterator;
-  may : MayCallAll g.E.Classed.class (g.B.QueueBody.content l.body).state (g.B.QueueBody.content l.body).spare (into_iter_items l.call-iterator);
-  answers : l.answers.items ++ call_answers g.E.Classed.class (g.B.QueueBody.content l.body).state (into_iter_items l.call-iterator)
-      ≡ call_answers g.E.Classed.class (g.B.QueueBody.content l.initial.body).state l.fn.calls.items;
-  state : calls_leave g.E.Classed.class (g.B.QueueBody.content l.body).state (into_iter_items l.call-iterator)
-      ≡ calls_leave g.E.Classed.class (g.B.QueueBody.content l.initial.body).state l.fn.calls.items;
+  may : MayCallAll g.E.Classed.class (g.B.QueueBody.state l.body) (g.B.QueueBody.spare l.body) (into_iter_items l.call-iterator);
+  answers : l.answers.items ++ call_answers g.E.Classed.class (g.B.QueueBody.state l.body) (into_iter_items l.call-iterator)
+      ≡ call_answers g.E.Classed.class (g.B.QueueBody.state l.initial.body) l.fn.calls.items;
+  state : calls_leave g.E.Classed.class (g.B.QueueBody.state l.body) (into_iter_items l.call-iterator)
+      ≡ calls_leave g.E.Classed.class (g.B.QueueBody.state l.initial.body) l.fn.calls.items;
 }
