@@ -1,6 +1,7 @@
 pub mod Asking
 pub mod Blocks
 pub mod Bounds
+pub mod Broken
 pub mod CalmEnd
 pub mod CalmRows
 pub mod CalmRun

@@ -1,5 +1,5 @@
 -- The laws, put together from the lemmas of the other files.
-use Rattle.std.proofs.Common.{◌≤◌, Some, None, Option, arith, ℕ, ◌≡◌, refl, sym, ◌∙◌, ap, subst, Bool, true, false, if◌then◌else◌, List}
+use Rattle.std.proofs.Common.{◌⊎◌, ◌≤◌, Some, None, Option, arith, ℕ, ◌≡◌, refl, sym, ◌∙◌, ap, subst, Bool, true, false, if◌then◌else◌, List}
 use Rattle.nk_base.specs.declared.status.Target.{Target}
 use Rattle.nk_base.specs.Queue.{target_number}
 use Rattle.nk_plan.specs.declared.event.ChildEvent.{ChildEvent}
@@ -17,8 +17,8 @@ use Rattle.nk_plan.specs.Lanes.{MainsStart, BacksStart}
 use Rattle.nk_plan.specs.Child.{ChildState, child_after}
 use Rattle.nk_plan.specs.Channel.{Channel, channel_after}
 use Rattle.nk_plan.specs.Run.{state_of, trace_of, Down}
-use Rattle.nk_plan.specs.Ending.{ending_by, ending_of}
-use Rattle.nk_plan.specs.Laws.{LanesLaw, MergeLaw, RunLaw, HopLaw, FailureLaw, CountsLaw, BoundsLaw, SendsLaw, StateLaw, OrderRunsLaw, RunOrderLaw, EndingToldLaw, EndingLaw, CalmLaw, ClosedLaw}
+use Rattle.nk_plan.specs.Ending.{ending_by, ending_of, ends_in_stop, waits_to_stop}
+use Rattle.nk_plan.specs.Laws.{LanesLaw, MergeLaw, RunLaw, HopLaw, FailureLaw, CountsLaw, BoundsLaw, SendsLaw, StateLaw, OrderRunsLaw, RunOrderLaw, EndingToldLaw, EndingLaw, BrokenLaw, CalmLaw, ClosedLaw}
 use Rattle.nk_plan.proofs.Premises.{plan_ok, ranges_ok, ends_by_failure}
 use Rattle.nk_plan.proofs.Sent.{lane_law_of}
 use Rattle.nk_plan.proofs.ParentLaw.{lane_law}
@@ -35,6 +35,7 @@ use Rattle.nk_plan.proofs.Ordered.{order_is_run}
 use Rattle.nk_plan.proofs.Orders.{run_is_order}
 use Rattle.nk_plan.proofs.Settled.{ending_told}
 use Rattle.nk_plan.proofs.CalmEnd.{calm_law_holds}
+use Rattle.nk_plan.proofs.Broken.{broken_stops}
 use Rattle.nk_plan.proofs.Closed.{closed_run}
 use Rattle.nk_plan.proofs.Tools.{by_bool}
 
@@ -122,6 +123,13 @@ endings c steps a q g =
     by_bool c.closed
     (λ e. let x : journal_ending c (channel_after c steps).child ≡ ending.Unopened = unopened c.closed _ e in let y : ending.Unopened ≡ ending.Going = sym x ∙ g1 in absurd (cc))
     (λ e. (ending_told c steps (plan_ok c a)).3 (ranges_ok c a) e q g1)
+
+pub broken : BrokenLaw
+broken c p j n a d b =
+    let steps : List ChildStep = d.child_run.0 in
+    let e : state_of c j ≡ child_after c steps = child_replayed c steps j d.child_run.1 in
+    let P : ChildState → Type 0 = λ s. s.broken ≡ true → (ends_in_stop s.trace ≡ true) ⊎ (waits_to_stop s.queue.waiting ≡ true) in
+    subst P (sym e) (broken_stops c p n steps (plan_ok c a) d.parent_run (down_of c p j n d)) b
 
 -- Calm plans
 

@@ -55,7 +55,7 @@ channel_inv c steps v =
     (run_inv c md bd j.child_steps v (start_inv c md bd (fed c (ups_taken w.parent.journal) md bd v l))
     (subst (λ (x : ChildState). Within md bd x.journal) (sym j.child_is) (j.mains, prefix_of_take w.forwarded (backs_taken w.child.journal) bd j.backs)))
 
-ends_at : (c : ChannelPlan) (a : Around) (pend w : List ChildEvent) (s : ChildState) → Holds c a pend w s → stops (strip (w ++ pend)) s.stopped ≡ a.ends
+pub ends_at : (c : ChannelPlan) (a : Around) (pend w : List ChildEvent) (s : ChildState) → Holds c a pend w s → stops (strip (w ++ pend)) s.stopped ≡ a.ends
 ends_at c a pend w s (pl, l, n, f, j, h, b, z) = z
 
 -- whether a stop or a failed opening is among all that was sent

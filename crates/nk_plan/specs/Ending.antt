@@ -3,6 +3,8 @@ use Rattle.std.specs.Prelude.{ℕ, Bool, true, false, not, ◌&&◌, if◌then�
 use Rattle.nk_base.specs.declared.message.Entry.{Entry}
 use Rattle.nk_plan.specs.declared.plan.ChannelPlan.{ChannelPlan}
 use Rattle.nk_plan.specs.declared.plan.Control.{Control}
+use Rattle.nk_plan.specs.declared.event.ChildEvent.{ChildEvent}
+use Rattle.nk_plan.specs.declared.event.ChildEvent.TheVariants.{Start, Bytes, Stop, Redirect1, Redirect3, Cancel}
 use Rattle.nk_plan.specs.declared.journal.ChildEntry.{ChildEntry}
 use Rattle.nk_plan.specs.declared.ends.Ending.{Ending}
 use Rattle.nk_plan.specs.declared.ends.Ending.TheVariants.{Stopped, Suspended, Unopened, Going}
@@ -18,6 +20,16 @@ ends_in_stop (shown.Stop s trailers ∷ []) = true
 ends_in_stop (shown.Start code s ∷ []) = false
 ends_in_stop (shown.Bytes o p ∷ []) = false
 ends_in_stop (e ∷ d ∷ t) = ends_in_stop (d ∷ t)
+
+-- whether a stop is among the events that wait
+abbrev pub waits_to_stop : List ChildEvent → Bool
+waits_to_stop [] = false
+waits_to_stop (Start code s ∷ es) = waits_to_stop es
+waits_to_stop (Bytes o p s ∷ es) = waits_to_stop es
+waits_to_stop (Stop s ∷ es) = true
+waits_to_stop (Redirect1 h ∷ es) = waits_to_stop es
+waits_to_stop (Redirect3 h ∷ es) = waits_to_stop es
+waits_to_stop (Cancel s ∷ es) = waits_to_stop es
 
 -- whether a control that is next is due, after so many callbacks
 abbrev pub comes_at : ℕ → Option Control → Bool

@@ -1,6 +1,6 @@
 -- The laws over the definitions, each the contract of a public function. None has a premise but that the plan is one that
 -- `ChannelPlan::new` accepts, where it needs that.
-use Rattle.std.specs.Prelude.{ℕ, ◌≡◌, ◌+◌, ◌↔◌, true, false, List, [], Some, None, ◌≤◌, length}
+use Rattle.std.specs.Prelude.{ℕ, ◌≡◌, ◌+◌, ◌↔◌, true, false, List, [], Some, None, ◌≤◌, ◌⊎◌, length}
 use Rattle.nk_base.specs.declared.status.Target.{Target}
 use Rattle.nk_base.specs.Queue.{posted_to}
 use Rattle.nk_plan.specs.declared.plan.ChannelPlan.{ChannelPlan}
@@ -19,7 +19,7 @@ use Rattle.nk_plan.specs.Child.{child_after}
 use Rattle.nk_plan.specs.Channel.{channel_after}
 use Rattle.nk_plan.specs.Enabled.{IsSettled}
 use Rattle.nk_plan.specs.Run.{IsParentRun, state_of, parent_state_of, trace_of, Down, parent_blocks, child_blocks, Run}
-use Rattle.nk_plan.specs.Ending.{ending_of, state_ending, ends_in_stop}
+use Rattle.nk_plan.specs.Ending.{ending_of, state_ending, ends_in_stop, waits_to_stop}
 use Rattle.nk_plan.specs.Calm.{IsCalm, calm_trace}
 use Rattle.nk_plan.specs.Walk.{Walk, Turn, walk_start, can, placed, is_done, CanPlace, places_all}
 use Rattle.nk_plan.specs.Telling.{new_telling, sends_from, parent_entries, child_entries}
@@ -129,6 +129,12 @@ EndingToldLaw = (c : ChannelPlan) (steps : List Step) → Accepted c →
 abbrev pub EndingLaw : Type 0
 EndingLaw = (c : ChannelPlan) (steps : List Step) → Accepted c → IsSettled c (channel_after c steps)
     → ending_of c (channel_after c steps).child.journal ≡ ending.Going → ⊥
+
+-- once a channel is broken, its stop was shown or waits
+abbrev pub BrokenLaw : Type 0
+BrokenLaw = (c : ChannelPlan) (p : List ParentEntry) (j : List ChildEntry) (n : ℕ) → Accepted c → Down c p j n
+    → (state_of c j).broken ≡ true
+    → (ends_in_stop (trace_of c j) ≡ true) ⊎ (waits_to_stop (state_of c j).queue.waiting ≡ true)
 
 -- Calm plans, and closed ones
 

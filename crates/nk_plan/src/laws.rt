@@ -1,7 +1,7 @@
 // The laws over the definitions. A law is a function that does nothing: its contract is what is proved, for every plan,
 // every run and every order of steps.
 
-ghost use Rattle.nk_plan.specs.Laws.{LanesLaw, MergeLaw, RunLaw, HopLaw, FailureLaw, CountsLaw, BoundsLaw, SendsLaw, StateLaw, OrderRunsLaw, RunOrderLaw, GreedyLaw, KeepLaw, StuckLaw, EntriesLaw, EndingToldLaw, EndingLaw, CalmLaw, ClosedLaw};
+ghost use Rattle.nk_plan.specs.Laws.{LanesLaw, MergeLaw, RunLaw, HopLaw, FailureLaw, CountsLaw, BoundsLaw, SendsLaw, StateLaw, OrderRunsLaw, RunOrderLaw, GreedyLaw, KeepLaw, StuckLaw, EntriesLaw, EndingToldLaw, EndingLaw, BrokenLaw, CalmLaw, ClosedLaw};
 
 /// What a parent sends obeys the lane law, whatever messages come from the page's side.
 pub fn lanes_law()
@@ -46,10 +46,12 @@ pub fn walk_law()
     ensures entries { EntriesLaw }
 {}
 
-/// Where no step that a drain tries is enabled, the ending is not `Going`.
+/// Where no step that a drain tries is enabled, the ending is not `Going`. Once a channel is
+/// broken, its stop was shown or waits.
 pub fn ending_law()
     ensures told { EndingToldLaw }
     ensures ends { EndingLaw }
+    ensures broken { BrokenLaw }
 {}
 
 /// What a run of a calm plan was shown, once it has stopped, is the plan's calm trace, and it is
