@@ -119,7 +119,7 @@ whole_still c w j still e i =
     let z : stops (strip (s.queue.waiting ++ (main_events i.um ++ (back_events a.hold.kept ++ back_events i.ub)))) s.stopped ≡ a.ends = ends_at c a _ _ s i.keeps in
     over_none s.queue.waiting i.um a.hold.kept i.ub s.stopped a.ends e um0 kept0 ub0 z ∙ i.ends_is
 
--- T3.3's part on the child: where nothing is enabled, an opened child has shown its stop, or is suspended, or its parent has not sent all
+-- the child's part: where nothing is enabled, an opened child has shown its stop, or is suspended, or its parent has not sent all
 pub child_still : (c : ChannelPlan) (steps : List Step) → PlanOk c → RangesOk c → IsStill c (channel_after c steps)
     → ((channel_after c steps).child.stopped ≡ true) ⊎ ((0 < (channel_after c steps).child.suspends) ⊎ (sent_all (channel_after c steps) ≡ false))
 child_still c steps v r still =
