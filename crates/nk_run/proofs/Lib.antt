@@ -1,7 +1,4 @@
-pub mod Lines
-pub mod Body
-pub mod Opening
+pub mod Tests
 pub mod Loads
-pub mod Sequential
-pub mod Inputs
-pub mod Rows
+pub mod Plays
+pub mod Tells

@@ -1,10 +1,26 @@
 -- The statuses of the program's failures, and what it prints of each.
-use Rattle.std.specs.Prelude.{ℕ, List, codes}
+use Rattle.std.specs.Prelude.{ℕ, ◌≡◌, ◌⊎◌, List, [], ◌∷◌, ◌++◌, codes, decimal}
+use Rattle.nk_script.specs.declared.script.Cause.{Cause}
+use Rattle.nk_script.specs.declared.script.Cause.TheVariants as cause
 use Rattle.nk_run.specs.declared.failure.Failure.{Failure}
 use Rattle.nk_run.specs.declared.failure.Failure.TheVariants as failure
-use Rattle.nk_run.specs.Script.{line}
+
+-- a line of text, as it is printed
+abbrev pub line : List ℕ → List ℕ
+line words = words ++ 10 ∷ []
+
+abbrev pub cause_text : Cause → List ℕ
+cause_text cause.Unexpected = codes "unexpected"
+cause_text cause.Malformed = codes "malformed"
+cause_text cause.Limit = codes "limit"
+cause_text cause.EndsEarly = codes "ends early"
+
+-- a script's first bad line, and why it is bad
+abbrev pub bad_line : ℕ → Cause → List ℕ
+bad_line number c = line (codes "error: line " ++ decimal number ++ codes ": " ++ cause_text c)
 
 abbrev pub status_of : Failure → ℕ
+status_of (failure.Line number c) = 1
 status_of failure.NotSupported = 1
 status_of failure.TooLarge = 1
 status_of failure.Usage = 2
@@ -13,9 +29,34 @@ status_of failure.Write = 4
 status_of failure.Memory = 5
 
 abbrev pub line_of : Failure → List ℕ
+line_of (failure.Line number c) = bad_line number c
 line_of failure.NotSupported = line (codes "error: not supported")
 line_of failure.TooLarge = line (codes "error: input too large")
 line_of failure.Usage = line (codes "usage: necklane play [log] | divert K | threads N [shared] [log] | frames | gen N | check")
 line_of failure.Read = line (codes "error: read")
 line_of failure.Write = line (codes "error: write")
 line_of failure.Memory = line (codes "error: memory")
+
+-- it is no bad line
+abbrev pub IsNoLine : Failure → Type 0
+IsNoLine (failure.Line number c) = ⊥
+IsNoLine failure.NotSupported = Unit {0}
+IsNoLine failure.TooLarge = Unit {0}
+IsNoLine failure.Usage = Unit {0}
+IsNoLine failure.Read = Unit {0}
+IsNoLine failure.Write = Unit {0}
+IsNoLine failure.Memory = Unit {0}
+
+-- the status of a bad line was answered and its line told, or memory was wanting for it, and that was told
+abbrev pub TellsLine : ℕ → Cause → ℕ → (List ℕ → Type 0) → Type 0
+TellsLine number c status Tells = ((status ≡ 1) × Tells (bad_line number c)) ⊎ ((status ≡ 5) × Tells (line_of failure.Memory))
+
+-- the status was answered, and the line told
+abbrev pub TellsAny : Failure → ℕ → (List ℕ → Type 0) → Type 0
+TellsAny (failure.Line number c) status Tells = TellsLine number c status Tells
+TellsAny failure.NotSupported status Tells = (status ≡ 1) × Tells (line_of failure.NotSupported)
+TellsAny failure.TooLarge status Tells = (status ≡ 1) × Tells (line_of failure.TooLarge)
+TellsAny failure.Usage status Tells = (status ≡ 2) × Tells (line_of failure.Usage)
+TellsAny failure.Read status Tells = (status ≡ 3) × Tells (line_of failure.Read)
+TellsAny failure.Write status Tells = (status ≡ 4) × Tells (line_of failure.Write)
+TellsAny failure.Memory status Tells = (status ≡ 5) × Tells (line_of failure.Memory)

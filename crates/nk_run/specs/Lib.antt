@@ -1,5 +1,5 @@
-pub mod Script
-pub mod Load
-pub mod Alone
+pub mod Built
 pub mod Failures
+pub mod Alone
 pub mod Playing
+pub mod Load

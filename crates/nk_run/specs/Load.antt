@@ -7,13 +7,7 @@ use Rattle.nk_base.specs.declared.message.BackMsg.TheVariants as back
 use Rattle.nk_base.specs.declared.message.Entry.{Entry}
 use Rattle.nk_base.specs.declared.message.Entry.TheVariants as entry
 use Rattle.nk_base.specs.Heads.{HeadParts}
-use Rattle.nk_plan.specs.declared.plan.ChannelPlan.{ChannelPlan}
 use Rattle.nk_base.specs.Status.{ok}
-use Rattle.nk_run.specs.Script.{plan_of}
-
--- the plan is that of one response, with no more pieces than a response may have
-abbrev pub IsOneResponse : ChannelPlan → Type 0
-IsOneResponse plan = (code : ℕ) × (pieces : List (List ℕ)) × (length pieces ≤ 65536) × (plan ≡ plan_of code pieces)
 
 -- the data and the stop that go on the background lane, the first piece at this offset
 abbrev pub body_messages : ℕ → List (List ℕ) → List BackMsg

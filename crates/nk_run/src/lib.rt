@@ -1,13 +1,13 @@
 //! The program of necklane, from its words and the bytes of its input to the bytes that it prints.
 //!
-//! This is the first path: `play` on one channel whose load is one response. Its parts are small and private;
-//! each answers exactly what its clause says.
+//! So far it reads every script and plays those whose loads are one response each (`built`). The parts of a load are
+//! small and private; each answers exactly what its clause says.
 #![tactic(auto)]
 
+mod built;
 mod failure;
 mod load;
 mod run;
-mod script;
 #[cfg(test)]
 mod tests;
 

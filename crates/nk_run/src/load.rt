@@ -6,7 +6,8 @@ ghost use Rattle.nk_base.specs.declared.message.MainMsg.TheVariants as main_mess
 ghost use Rattle.nk_base.specs.declared.message.BackMsg.TheVariants as back_messages;
 ghost use Rattle.nk_base.specs.Status.{ok};
 ghost use Rattle.nk_plan.specs.Calm.{calm_trace};
-ghost use Rattle.nk_run.specs.Load.{IsOneResponse, body_messages, back_messages as all_back_messages, shown_by, shown_by_backs, shown_by_main, shown_by_mains};
+ghost use Rattle.nk_run.specs.Built.{is_built};
+ghost use Rattle.nk_run.specs.Load.{body_messages, back_messages as all_back_messages, shown_by, shown_by_backs, shown_by_main, shown_by_mains};
 
 use nk_base::{BackMsg, Entry, Fields, Head, MainMsg, Memory, Piece, Status};
 use nk_plan::{ChannelPlan, Hop, Trace};
@@ -125,7 +126,7 @@ fn show_all(trace: &mut Trace, main: Lane<MainMsg>, held: Lane<BackMsg>) -> Resu
 
 /// The trace that the listener of one response sees.
 pub(crate) fn trace(alloc: Global, plan: &ChannelPlan) -> Result<Trace, Memory>
-    requires { IsOneResponse plan.now }
+    requires { is_built plan.now ≡ true }
     ensures { IfOk result (λ trace. trace ≡ calm_trace plan.now) }
 {
     let Hop::Response { head, pieces, .. } = plan.hops.get(0) else {

@@ -36,14 +36,12 @@ fn one_response_is_played(rt: HostRuntime) -> Result<(), Fail> {
 }
 
 #[test]
-fn a_response_without_a_piece_is_played_and_its_last_line_feed_may_lack(
-    rt: HostRuntime,
-) -> Result<(), Fail> {
+fn two_channels_are_printed_in_order(rt: HostRuntime) -> Result<(), Fail> {
     plays(
         &rt,
-        b"script 1\nchannel\nhop response 204\nend ok",
+        b"script 1\nchannel\nhop response 200\npiece hello\nend ok\nchannel\nhop response 204\nend ok",
         0,
-        b"channel 1\nstart 204 00000000\nstop 00000000\nend stopped\n",
+        b"channel 1\nstart 200 00000000\ndata 0 68656c6c6f\nstop 00000000\nend stopped\nchannel 2\nstart 204 00000000\nstop 00000000\nend stopped\n",
         b"",
     )
 }
@@ -52,25 +50,50 @@ fn a_response_without_a_piece_is_played_and_its_last_line_feed_may_lack(
 fn a_second_piece_stands_behind_the_first(rt: HostRuntime) -> Result<(), Fail> {
     plays(
         &rt,
-        b"script 1\nchannel\nhop response 999\npiece piece \npiece  end ok\nend ok\n",
+        b"script 1\nchannel\nhop response 999\nfield server example\npiece piece \nhex 00ff\nfill 2e 2\nend ok\nretargetable no\n",
         0,
-        b"channel 1\nstart 999 00000000\ndata 0 706965636520\ndata 6 20656e64206f6b\nstop 00000000\nend stopped\n",
+        b"channel 1\nstart 999 00000000\ndata 0 706965636520\ndata 6 00ff\ndata 8 2e2e\nstop 00000000\nend stopped\n",
         b"",
     )
 }
 
 #[test]
-fn other_texts_are_not_supported(rt: HostRuntime) -> Result<(), Fail> {
-    let texts: [&[u8]; 6] = [
-        b"",
+fn scripts_of_other_loads_are_not_supported(rt: HostRuntime) -> Result<(), Fail> {
+    let texts: [&[u8]; 4] = [
         b"script 1\nchannel\nhop fail 804b000d\n",
-        b"script 1\nchannel\nhop response 099\nend ok\n",
-        b"script 1\nchannel\nhop response 200\npiece \nend ok\n",
-        b"script 1\nchannel\nhop response 200\npiece hello\n",
-        b"script 1\nchannel\nhop response 200\nend ok\nend ok\n",
+        b"script 1\nchannel\nhop response 200\nend ok\nwindow 5\n",
+        b"script 1\nchannel\nhop response 200\nend ok\ntrailer x-sum 17\n",
+        b"script 1\nchannel\nhop response 200\nend ok\nschedule\n1 act\n",
     ];
     for text in texts {
         plays(&rt, text, 1, b"", b"error: not supported\n")?;
+    }
+    Ok(())
+}
+
+#[test]
+fn the_first_bad_line_of_a_text_is_named(rt: HostRuntime) -> Result<(), Fail> {
+    let texts: [(&[u8], &[u8]); 5] = [
+        (b"", b"error: line 1: ends early\n"),
+        (
+            b"script 1\nchannel\nhop response 200\npiece\nend ok\n",
+            b"error: line 4: malformed\n",
+        ),
+        (
+            b"script 1\nchannel\nhop response 099\nend ok\n",
+            b"error: line 3: malformed\n",
+        ),
+        (
+            b"script 1\nchannel\nhop response 200\nend ok\nend ok\n",
+            b"error: line 5: unexpected\n",
+        ),
+        (
+            b"script 1\nchannel\nhop response 200\npiece hello\n",
+            b"error: line 5: ends early\n",
+        ),
+    ];
+    for (text, told) in texts {
+        plays(&rt, text, 1, b"", told)?;
     }
     Ok(())
 }
@@ -93,7 +116,7 @@ fn words_without_a_meaning_get_the_usage_line(rt: HostRuntime) -> Result<(), Fai
     Ok(())
 }
 
-/// The source and the sink of one faulty run.
+/// The status and the sinks of one run whose source and sink fail at these calls.
 fn with_faults(
     rt: &(impl Abort + AllocGlobal),
     source_fails: &[u64],

@@ -11,7 +11,11 @@ returns-in-Err-clause-supported g c = λ play some quiet.
     let called = c.read_words.ensures.each (Play false) (record { spelled = play; in_range = tt }) in absurd (cc (c.in-Err.is, called))
 
 pub returns-in-Err-clause-unsupported : goal.returns-in-Err-clause-unsupported
-returns-in-Err-clause-unsupported g c = λ play none quiet.
+returns-in-Err-clause-unsupported g c = λ play some quiet.
+    let called = c.read_words.ensures.each (Play false) (record { spelled = play; in_range = tt }) in absurd (cc (c.in-Err.is, called))
+
+pub returns-in-Err-clause-none : goal.returns-in-Err-clause-none
+returns-in-Err-clause-none g c = λ play none quiet.
     let called = c.read_words.ensures.each (Play false) (record { spelled = play; in_range = tt }) in absurd (cc (c.in-Err.is, called))
 
 pub returns-in-Err-clause-overlong : goal.returns-in-Err-clause-overlong

@@ -1,11 +1,9 @@
-use Rattle.std.proofs.lemmas.Result.{err_from_is_err_and}
+use Rattle.std.proofs.Common.{sym, ◌∙◌}
 use Rattle.nk_run.proofs.run.played.Goals as goal
-use Rattle.nk_run.proofs.Sequential.{trace_of}
+use Rattle.nk_run.proofs.Plays.{is_played, report_is}
 
-pub returns-in_err-plan-clause-refused : goal.returns-in_err-plan-clause-refused
-returns-in_err-plan-clause-refused c =
-    let p = err_from_is_err_and c.from_residual.result c.from_residual.ensures.1 in
-    rw (p.1, p.2) (λ is. c.in_err-plan.ensures.refused (cc))
-
-pub returns-in-Ok-report_alone-clause-played : goal.returns-in-Ok-report_alone-clause-played
-returns-in-Ok-report_alone-clause-played c = (_, trace_of c.in_ok-plan.plan c.args.text.now _ c.in_ok-plan.ensures.read c.in-Ok.ensures, c.in-Ok-report_alone.ensures)
+pub returns-then-is_supported-clause-played : goal.returns-then-is_supported-clause-played
+returns-then-is_supported-clause-played c =
+    report_is c.printed.result c.args.text.now c.in-Ok.script c.as_slice.result.now c.as_slice.ensures
+    (is_played c.args.text.now c.in-Ok.script c.in-Ok.ensures.script (sym c.is_supported.ensures ∙ c.if-is_supported.true))
+    c.printed.ensures.report

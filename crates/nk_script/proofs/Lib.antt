@@ -1,0 +1,10 @@
+pub mod Decimals
+pub mod Hex
+pub mod Ascii
+pub mod WordsOf
+pub mod Fields
+pub mod Prefixes
+pub mod Short
+pub mod Pairs
+pub mod Heads
+pub mod Reading

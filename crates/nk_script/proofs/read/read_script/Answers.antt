@@ -1,0 +1,31 @@
+use Rattle.std.proofs.Common.{◌<◌, ◌+◌, ℕ, List, length, Err, sym, subst}
+use Rattle.nk_script.specs.declared.script.ScriptError.{ScriptError}
+use Rattle.nk_script.specs.Answers.{IsLineAnswer, IsTaken, Blames, IsScriptOrMemory}
+use Rattle.nk_script.proofs.Reading.{IsAt, at_next, refused_error, refused_script, rest_shorter, length_some}
+use Rattle.nk_script.proofs.read.read_script.Goals as goal
+
+pub returns-in-Err-clause-every : goal.returns-in-Err-clause-every
+returns-in-Err-clause-every c s h =
+    let some = length_some c.loop-rest.rest.now (sym c.loop-rest-test.ensures) in
+    let answer = subst (λ (t : List ℕ). IsLineAnswer c.loop-rest.reader t (Err c.in-Err.refusal) c.read_next.new.self) c.first_line.ensures.line c.in-Err.ensures in
+    subst (λ (e : ScriptError). IsScriptOrMemory (Err e) s) (sym c.at_line.ensures)
+    (refused_script c.args.text.now c.loop-rest.reader c.read_next.new.self c.loop-rest.number c.loop-rest.rest.now c.in-Err.refusal c.loop-rest.invariant some answer s h)
+
+pub returns-in-Err-clause-line : goal.returns-in-Err-clause-line
+returns-in-Err-clause-line c =
+    let some = length_some c.loop-rest.rest.now (sym c.loop-rest-test.ensures) in
+    let answer = subst (λ (t : List ℕ). IsLineAnswer c.loop-rest.reader t (Err c.in-Err.refusal) c.read_next.new.self) c.first_line.ensures.line c.in-Err.ensures in
+    subst (Blames c.args.text.now) (sym c.at_line.ensures)
+    (refused_error c.args.text.now c.loop-rest.reader c.read_next.new.self c.loop-rest.number c.loop-rest.rest.now c.in-Err.refusal c.loop-rest.invariant some answer)
+
+pub loop-rest-smaller : goal.loop-rest-smaller
+loop-rest-smaller c =
+    subst (λ (rest : List ℕ). length rest < length c.loop-rest.rest.now) (sym c.first_line.ensures.rest)
+    (rest_shorter c.loop-rest.rest.now (length_some c.loop-rest.rest.now (sym c.loop-rest-test.ensures)))
+
+pub loop-rest-preserved : goal.loop-rest-preserved
+loop-rest-preserved c =
+    let some = length_some c.loop-rest.rest.now (sym c.loop-rest-test.ensures) in
+    let taken = subst (λ (t : List ℕ). IsTaken c.loop-rest.reader t c.read_next.new.self) c.first_line.ensures.line c.in-Ok.ensures in
+    subst (λ (rest : List ℕ). IsAt c.args.text.now c.read_next.new.self (c.loop-rest.number + 1) rest) (sym c.first_line.ensures.rest)
+    (at_next c.args.text.now c.loop-rest.reader c.read_next.new.self c.loop-rest.number c.loop-rest.rest.now c.loop-rest.invariant some taken)

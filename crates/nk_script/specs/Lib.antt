@@ -1,0 +1,9 @@
+pub mod Responses
+pub mod Texts
+pub mod Numbers
+pub mod Lines
+pub mod Order
+pub mod Draft
+pub mod Grammar
+pub mod Starts
+pub mod Answers

@@ -1,0 +1,26 @@
+// Scripts of loads: the text of a script is read into the plans of its channels and the steps of its schedule.
+#![tactic(auto)]
+
+mod draft;
+mod field;
+mod form;
+mod keyword;
+mod line;
+mod number;
+mod piece;
+mod read;
+mod read_line;
+mod reader;
+mod rest;
+mod script;
+mod take;
+#[cfg(test)]
+mod tests;
+mod text;
+mod worded;
+
+pub use draft::{Draft, Response};
+pub use line::{HopLine, Keyword, Line, Place};
+pub use read::{Refusal, read_script};
+pub use reader::Reader;
+pub use script::{Cause, ScheduleItem, Script, ScriptError, Steps};

@@ -1,0 +1,119 @@
+// A script is read line by line.
+
+ghost use Rattle.std.specs.Prelude.{◌≡◌, ◌≤◌, ◌<◌, ◌^◌, length, IfOk, IfErr};
+ghost use Rattle.nk_script.specs.declared.script.Script.{Script as AnyScript};
+ghost use Rattle.nk_script.specs.Draft.{plans_of};
+ghost use Rattle.nk_script.specs.Grammar.{IsTextOf, script_of};
+ghost use Rattle.nk_script.specs.Answers.{IsLineAnswer, Blames, IsScriptOrMemory, error_at};
+ghost use Rattle.nk_script.specs.Texts.{before, behind_line};
+
+use crate::keyword::read_keyword;
+use crate::read_line::read_line;
+use crate::reader::Reader;
+use crate::script::{Cause, Script, ScriptError};
+use crate::text::cut;
+use nk_base::Memory;
+use std::alloc::Global;
+
+/// Why a line was not taken. This project's own.
+#[derive(Clone, Copy, Debug, Drop, PartialEq, Eq)]
+pub enum Refusal {
+    /// It cannot stand there.
+    Line(Cause),
+    /// Want of memory.
+    Memory,
+}
+
+impl Refusal {
+    // The error of the line of this number.
+    fn at_line(self, number: u32) -> ScriptError
+        ensures { result ≡ error_at number self }
+    {
+        match self {
+            Refusal::Line(cause) => ScriptError::Line { number, cause },
+            Refusal::Memory => ScriptError::Memory,
+        }
+    }
+}
+
+// The first line of a text, and the text behind it.
+fn first_line(text: &[u8]) -> (&[u8], &[u8])
+    ensures line { result.0.now ≡ before 10 text.now }
+    ensures rest { result.1.now ≡ behind_line text.now }
+{
+    match cut(text, b'\n') {
+        (line, Some(rest)) => (line, rest),
+        (line, None) => (line, &[]),
+    }
+}
+
+impl Reader {
+    // Takes in the next line.
+    pub(crate) fn read_next(&mut self, alloc: Global, text: &[u8]) -> Result<(), Refusal>
+        requires { length (plans_of self.old) ≤ 1024 }
+        ensures { IsLineAnswer self.old text.now result self.new }
+    {
+        let (word, _) = cut(text, b' ');
+        let Some(keyword) = read_keyword(word) else {
+            return Err(Refusal::Line(Cause::Unexpected));
+        };
+        if !self.place.allows(keyword) {
+            return Err(Refusal::Line(Cause::Unexpected));
+        }
+        let channels = self.plans.len() as u32;
+        let line = match read_line(alloc, keyword, text, channels) {
+            Ok(Some(line)) => line,
+            Ok(None) => return Err(Refusal::Line(Cause::Malformed)),
+            Err(Memory) => return Err(Refusal::Memory),
+        };
+        if !self.is_within(&line) {
+            return Err(Refusal::Line(Cause::Limit));
+        }
+        match self.take(alloc, line) {
+            Ok(()) => Ok(()),
+            Err(Memory) => Err(Refusal::Memory),
+        }
+    }
+
+    // The script that was read.
+    fn into_script(mut self) -> Result<Script, Memory>
+        ensures { IfOk result (λ script. script ≡ script_of self) }
+    {
+        self.close_channel()?;
+        Ok(Script {
+            plans: self.plans,
+            schedule: self.schedule,
+        })
+    }
+}
+
+/// The script that the text stands for.
+///
+/// The error names the first line, counted from 1, that cannot stand after the lines before it, and why.
+pub fn read_script(alloc: Global, text: &[u8]) -> Result<Script, ScriptError>
+    requires { length text.now < 2 ^ 31 }
+    ensures script { IfOk result (λ script. IsTextOf script text.now) }
+    ensures every { (script : AnyScript) → IsTextOf script text.now → IsScriptOrMemory result script }
+    ensures line { IfErr result (Blames text.now) }
+{
+    let mut reader = Reader::new(alloc);
+    let mut rest = text;
+    let mut number: u32 = 1;
+    while !rest.is_empty() {
+        let (line, more) = first_line(rest);
+        match reader.read_next(alloc, line) {
+            Ok(()) => {}
+            Err(refusal) => return Err(refusal.at_line(number)),
+        }
+        number += 1;
+        rest = more;
+    }
+    if !reader.place.may_end() {
+        let cause = Cause::EndsEarly;
+        return Err(ScriptError::Line { number, cause });
+    }
+    match reader.into_script() {
+        Ok(script) => Ok(script),
+        Err(Memory) => Err(ScriptError::Memory),
+    }
+}
