@@ -1,4 +1,4 @@
-pub mod Tests
+pub mod PlanTests
 pub mod Loads
 pub mod Plays
 pub mod Tells

@@ -1,4 +1,4 @@
-use Rattle.std.proofs.Common.{◌≡◌, ◌≤◌, ◌+◌, ◌&&◌, Bool, true, false, not, ◌∷◌, ◌++◌, ℕ, List, [], length, ap, sym, ◌∙◌, refl, subst, inl, Some, None, slice_get}
+use Rattle.std.proofs.Common.{◌≡◌, ◌+◌, ◌&&◌, Bool, true, false, not, ◌∷◌, ◌++◌, ℕ, List, [], length, ap, sym, ◌∙◌, refl, subst, inl, Some, None, slice_get}
 use Rattle.nk_base.specs.declared.field.Field.{Field}
 use Rattle.nk_base.specs.declared.message.MainMsg.{MainMsg}
 use Rattle.nk_base.specs.declared.message.MainMsg.TheVariants as main
@@ -17,7 +17,7 @@ use Rattle.nk_plan.specs.Trace.{SeqTrace, Follows}
 use Rattle.nk_plan.specs.Calm.{calm_trace, data_of}
 use Rattle.nk_run.specs.Built.{is_none, is_one_response, is_undisturbed, is_plain, is_main, is_built}
 use Rattle.nk_run.specs.Load.{body_messages, shown_by_backs, shown_by_mains}
-use Rattle.nk_run.proofs.Tests.{Response, only_hop, and_left, and_right, none_is}
+use Rattle.nk_run.proofs.PlanTests.{Response, only_hop, and_left, and_right, none_is}
 
 -- What a load of one response shows is the calm trace of its plan, which one sequential channel shows.
 

@@ -1,4 +1,4 @@
-use Rattle.std.proofs.Common.{◌≡◌, ◌≢◌, ◌≤◌, ◌&&◌, Bool, true, false, ℕ, List, [], ◌∷◌, length, map, refl, ap, sym, ◌∙◌, subst, Option, Some, None, Result, Ok, Err, IfOk, All, Vec, Global}
+use Rattle.std.proofs.Common.{◌≡◌, ◌≢◌, ◌≤◌, true, false, ℕ, List, [], ◌∷◌, length, map, ap, sym, ◌∙◌, subst, Option, Some, None, Result, Ok, Err, IfOk, All, Vec, Global}
 use Rattle.std.specs.List.{AllByRecursion}
 use Rattle.std.proofs.lemmas.List.Elements.{All-from_recursion}
 use Rattle.nk_plan.specs.declared.plan.ChannelPlan.{ChannelPlan}
@@ -9,10 +9,10 @@ use Rattle.nk_script.specs.declared.script.Cause.{Cause}
 use Rattle.nk_script.specs.Grammar.{IsTextOf, IsFirstBadLine}
 use Rattle.nk_trace.specs.Report.{text}
 use Rattle.nk_run.specs.declared.failure.Failure.{Failure}
-use Rattle.nk_run.specs.Alone.{end_of, IsSequential, IsPlayed, IsUnsupported, IsNoScript, IsBadAt, IsRefused, IsSupported, IsInput, most_input, report_of}
-use Rattle.nk_run.specs.Built.{is_none, is_built, all_built, is_supported}
-use Rattle.nk_run.specs.Playing.{IsReadWhole, AnswersScript}
-use Rattle.nk_run.proofs.Tests.{and_left, and_right, none_is}
+use Rattle.nk_run.specs.Alone.{end_of, IsSequential, IsPlayed, IsUnsupported, IsNoScript, IsBadAt, IsRefused, IsInput, most_input, report_of}
+use Rattle.nk_run.specs.Built.{is_built, all_built, is_supported}
+use Rattle.nk_run.specs.Playing.{IsReadWhole}
+use Rattle.nk_run.proofs.PlanTests.{and_left, and_right}
 use Rattle.nk_run.proofs.Loads.{calm_is_sequential}
 
 -- What the channels of a supported script show, and what is known of an input that was read.

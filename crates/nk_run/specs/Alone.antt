@@ -1,6 +1,6 @@
 -- What the program answers and prints, from the bytes of its input to those of its output.
 -- A source tells what it has left, and a sink what it got, or neither says anything of the bytes.
-use Rattle.std.specs.Prelude.{ℕ, ◌≡◌, ◌+◌, ◌≤◌, ◌⊎◌, true, false, if◌then◌else◌, ◌==◌, List, [], ◌∷◌, ◌++◌, length, map, Option, None, Some, IfSome, IsSomeAnd, codes}
+use Rattle.std.specs.Prelude.{ℕ, ◌≡◌, ◌≤◌, ◌⊎◌, true, false, if◌then◌else◌, ◌==◌, List, [], ◌∷◌, length, map, Option, None, Some, IfSome, IsSomeAnd, codes}
 use Rattle.std.specs.List.{AllByRecursion}
 use Rattle.nk_io.specs.Faults.{Rose}
 use Rattle.nk_io.specs.Got.{Gains, GainsPart}
@@ -15,7 +15,7 @@ use Rattle.nk_script.specs.declared.script.Cause.{Cause}
 use Rattle.nk_script.specs.Grammar.{IsTextOf, IsFirstBadLine}
 use Rattle.nk_trace.specs.Report.{text}
 use Rattle.nk_run.specs.Built.{is_supported}
-use Rattle.nk_run.specs.Failures.{line, bad_line}
+use Rattle.nk_run.specs.Failures.{line}
 
 -- the words of the one command that is built
 abbrev pub IsPlay : List (List ℕ) → Type 0

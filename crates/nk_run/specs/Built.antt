@@ -1,5 +1,5 @@
 -- What is built so far of a script: loads of one response that nothing disturbs.
-use Rattle.std.specs.Prelude.{ℕ, Bool, true, false, not, ◌&&◌, nat_le, ◌==◌, List, [], ◌∷◌, length}
+use Rattle.std.specs.Prelude.{Bool, true, false, not, ◌&&◌, nat_le, ◌==◌, List, [], ◌∷◌, length}
 use Rattle.nk_plan.specs.declared.plan.ChannelPlan.{ChannelPlan}
 use Rattle.nk_plan.specs.declared.plan.Hop.{Hop}
 use Rattle.nk_plan.specs.declared.plan.Hop.TheVariants as hop

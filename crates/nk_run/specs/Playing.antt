@@ -1,9 +1,9 @@
 -- What the steps of a play leave, before its report is written.
-use Rattle.std.specs.Prelude.{ℕ, ◌≡◌, ◌+◌, ◌≤◌, ◌⊎◌, true, false, List, [], length, Option, Some, IfSome, Result, Ok, Err}
+use Rattle.std.specs.Prelude.{ℕ, ◌≡◌, ◌+◌, ◌⊎◌, true, false, List, [], Option, Some, IfSome, Result, Ok, Err}
 use Rattle.nk_io.specs.Faults.{Rose}
 use Rattle.nk_io.specs.Given.{GivesCount}
 use Rattle.nk_script.specs.declared.script.Script.{Script}
-use Rattle.nk_script.specs.Grammar.{IsTextOf, IsFirstBadLine}
+use Rattle.nk_script.specs.Grammar.{IsFirstBadLine}
 use Rattle.nk_run.specs.Alone.{most_input, IsBadAt, IsRefused, IsUnsupported, IsNoScript}
 use Rattle.nk_run.specs.Built.{is_supported}
 use Rattle.nk_run.specs.declared.failure.Failure.{Failure}

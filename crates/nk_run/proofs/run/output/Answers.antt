@@ -1,4 +1,4 @@
-use Rattle.std.proofs.Common.{◌≡◌, false, refl}
+use Rattle.std.proofs.Common.{false, refl}
 use Rattle.nk_words.specs.declared.command.Command.TheVariants.{Play}
 use Rattle.nk_run.proofs.run.output.Goals as goal
 

@@ -1,4 +1,4 @@
-use Rattle.std.proofs.Common.{◌≡◌, sym, ◌∙◌, ap, Err}
+use Rattle.std.proofs.Common.{◌≡◌, ◌∙◌, ap, Err}
 use Rattle.nk_run.specs.declared.failure.Failure.TheVariants.{Usage}
 use Rattle.nk_run.specs.Alone.{Told}
 use Rattle.nk_run.proofs.run.run_alone.Goals as goal

@@ -1,11 +1,11 @@
-use Rattle.std.proofs.Common.{◌≡◌, ◌≤◌, ◌+◌, suc, ◌&&◌, Bool, true, false, ℕ, List, [], ◌∷◌, length, refl, ap, sym, ◌∙◌, arith, nat_le}
+use Rattle.std.proofs.Common.{◌≡◌, ◌≤◌, suc, ◌&&◌, Bool, true, false, ℕ, List, [], ◌∷◌, length, refl, ap, ◌∙◌, arith, nat_le}
 use Rattle.std.proofs.lemmas.Bool.{eqb-true, leb-true}
 use Rattle.nk_base.specs.Heads.{HeadParts}
 use Rattle.nk_plan.specs.declared.plan.ChannelPlan.{ChannelPlan}
 use Rattle.nk_plan.specs.declared.plan.Hop.{Hop}
 use Rattle.nk_plan.specs.declared.plan.Hop.TheVariants as hop
 use Rattle.nk_plan.specs.declared.plan.Finish.TheVariants as finish
-use Rattle.nk_run.specs.Built.{is_none, is_whole, is_one_response, is_undisturbed, is_plain, is_main, is_built, all_built}
+use Rattle.nk_run.specs.Built.{is_none, is_whole, is_one_response}
 
 -- What the tests on a plan say of it.
 
