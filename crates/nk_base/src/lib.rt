@@ -17,7 +17,7 @@ pub use message::{BackMsg, Entry, MainMsg, UpMsg};
 pub use out::{Out, OutList, Ranged};
 pub use piece::{ByteList, Piece, PieceError};
 pub use queue::{Class, Classed};
-pub use status::{Memory, RetargetError, Status, Target};
+pub use status::{Memory, Moved, RetargetError, Status, Target};
 
 #[cfg(test)]
 mod tests;

@@ -1,4 +1,4 @@
-// The results that loads end with, the threads that events run on, and want of memory.
+// The results that loads end with, the threads that events run on, what a step answers, and want of memory.
 
 ghost use Rattle.std.specs.Prelude.{◌≡◌, ◌↔◌, IsTrue};
 ghost use Rattle.nk_base.specs.Status.{is_failure, is_legal_status};
@@ -7,6 +7,13 @@ ghost use Rattle.nk_base.specs.Queue.{same_target};
 /// Want of memory: the one answer that no clause ties to a cause. This project's own.
 #[derive(Clone, Copy, Debug, Drop, PartialEq, Eq)]
 pub struct Memory;
+
+/// What a step did: it was made, or it was not enabled and changed nothing. This project's own.
+#[derive(Clone, Copy, Debug, Drop, PartialEq, Eq)]
+pub enum Moved {
+    Did,
+    Idle,
+}
 
 /// A result code. A status is legal where it is 0 or a failure. After Firefox's `nsresult`; the numbers are this
 /// project's own.

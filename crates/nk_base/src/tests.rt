@@ -67,7 +67,10 @@ fn messages_are_shared_whole(rt: HostRuntime) -> Result<(), Fail> {
     let piece = Piece::new(alloc, b"hello")?;
     let trailers = fields(alloc, &[b"expires"])?;
     let (hop, status) = (0, Status::OK);
-    let start = MainMsg::Redirect1 { hop, code: 302 };
+    let redirect = MainMsg::Redirect1 { hop, code: 302 };
+    assert!(rt; redirect.share()?.same(&redirect));
+    let head = Head::new(200, fields(alloc, &[b"content-type"])?)?;
+    let start = MainMsg::Start { hop, status, head };
     assert!(rt; start.share()?.same(&start));
     let stop = BackMsg::Stop {
         hop,

@@ -8,7 +8,6 @@ pub mod Event
 pub mod Failure
 pub mod Journal
 pub mod Lanes
-pub mod Laws
 pub mod Parent
 pub mod Plan
 pub mod Rows

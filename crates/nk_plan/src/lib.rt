@@ -1,4 +1,4 @@
-// Plans, journals and ends of a channel, and the laws over them.
+// Plans, journals and ends of a channel. The tables of its steps and the sequential channel are defined in specs/.
 #![tactic(auto)]
 
 mod accept;
@@ -6,7 +6,6 @@ mod ends;
 mod event;
 mod journal;
 mod kept;
-mod laws;
 mod plan;
 mod step;
 
@@ -14,9 +13,6 @@ pub use ends::{ChannelEnd, Ending, Ends, ReaderEnd, Readers, Trace};
 pub use event::ChildEvent;
 pub use journal::{ChildEntry, ChildJournal, ParentEntry, ParentJournal};
 pub use kept::{kept_status, merged};
-pub use laws::{
-    calm_law, ending_law, journal_law, lanes_law, merge_law, order_law, state_law, walk_law,
-};
 pub use plan::{
     Act, ChannelPlan, Control, Controls, Finish, Hop, Hops, ListenerKind, Pieces, PlanError, Plans,
     Reaction, Reactions, StartLane, Verdict,

@@ -1,0 +1,5 @@
+use Rattle.nk_laws.proofs.Proved.{endings_told, endings, broken}
+use Rattle.nk_laws.proofs.laws.ending_law.Goals as goal
+
+pub returns : goal.returns
+returns c = record { told = endings_told; ends = endings; broken = broken }

@@ -1,0 +1,5 @@
+use Rattle.nk_laws.proofs.Proved.{failures, counts, bounds, sends}
+use Rattle.nk_laws.proofs.laws.journal_law.Goals as goal
+
+pub returns : goal.returns
+returns c = record { failure = failures; counts = counts; bounds = bounds; sends = sends }

@@ -1,5 +1,0 @@
-use Rattle.nk_plan.proofs.Proved.{calm, closed}
-use Rattle.nk_plan.proofs.laws.calm_law.Goals as goal
-
-pub returns : goal.returns
-returns c = record { calm = calm; closed = closed }

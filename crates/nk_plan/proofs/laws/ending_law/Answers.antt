@@ -1,5 +1,0 @@
-use Rattle.nk_plan.proofs.Proved.{endings_told, endings, broken}
-use Rattle.nk_plan.proofs.laws.ending_law.Goals as goal
-
-pub returns : goal.returns
-returns c = record { told = endings_told; ends = endings; broken = broken }

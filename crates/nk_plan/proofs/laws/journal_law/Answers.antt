@@ -1,5 +1,0 @@
-use Rattle.nk_plan.proofs.Proved.{failures, counts, bounds, sends}
-use Rattle.nk_plan.proofs.laws.journal_law.Goals as goal
-
-pub returns : goal.returns
-returns c = record { failure = failures; counts = counts; bounds = bounds; sends = sends }

@@ -1,5 +1,0 @@
-use Rattle.nk_plan.proofs.Proved.{orders_run, runs_order}
-use Rattle.nk_plan.proofs.laws.order_law.Goals as goal
-
-pub returns : goal.returns
-returns c = record { run = orders_run; order = runs_order }
