@@ -8,3 +8,8 @@ pub mod Short
 pub mod Pairs
 pub mod Heads
 pub mod Reading
+pub mod Keywords
+pub mod Ranged
+pub mod Drafts
+pub mod Playable
+pub mod Places

@@ -1,10 +1,11 @@
 // A script is read line by line.
 
-ghost use Rattle.std.specs.Prelude.{◌≡◌, ◌≤◌, ◌<◌, ◌^◌, length, IfOk, IfErr};
+ghost use Rattle.std.specs.Prelude.{◌≡◌, ◌≤◌, ◌<◌, ◌^◌, ℕ, length, IfOk, IfErr};
+ghost use Rattle.nk_script.specs.declared.script.Cause.{Cause as AnyCause};
 ghost use Rattle.nk_script.specs.declared.script.Script.{Script as AnyScript};
 ghost use Rattle.nk_script.specs.Draft.{plans_of};
-ghost use Rattle.nk_script.specs.Grammar.{IsTextOf, script_of};
-ghost use Rattle.nk_script.specs.Answers.{IsLineAnswer, Blames, IsScriptOrMemory, error_at};
+ghost use Rattle.nk_script.specs.Grammar.{IsTextOf, IsFirstBadLine, script_of};
+ghost use Rattle.nk_script.specs.Answers.{IsLineAnswer, Blames, IsScriptOrMemory, IsErrorOrMemory, IsPlayable, error_at};
 ghost use Rattle.nk_script.specs.Texts.{before, behind_line};
 
 use crate::keyword::read_keyword;
@@ -89,12 +90,15 @@ impl Reader {
 
 /// The script that the text stands for.
 ///
-/// The error names the first line, counted from 1, that cannot stand after the lines before it, and why.
+/// The error names the first line, counted from 1, that cannot stand after the lines before it, and why. There is one
+/// such line, with one cause, exactly where the text stands for no script.
 pub fn read_script(alloc: Global, text: &[u8]) -> Result<Script, ScriptError>
     requires { length text.now < 2 ^ 31 }
     ensures script { IfOk result (λ script. IsTextOf script text.now) }
+    ensures playable { IfOk result IsPlayable }
     ensures every { (script : AnyScript) → IsTextOf script text.now → IsScriptOrMemory result script }
     ensures line { IfErr result (Blames text.now) }
+    ensures only { (number : ℕ) (cause : AnyCause) → IsFirstBadLine text.now number cause → IsErrorOrMemory result number cause }
 {
     let mut reader = Reader::new(alloc);
     let mut rest = text;

@@ -1,7 +1,8 @@
 use Rattle.std.proofs.Common.{◌<◌, ◌+◌, ℕ, List, length, Err, sym, subst}
 use Rattle.nk_script.specs.declared.script.ScriptError.{ScriptError}
-use Rattle.nk_script.specs.Answers.{IsLineAnswer, IsTaken, Blames, IsScriptOrMemory}
-use Rattle.nk_script.proofs.Reading.{IsAt, at_next, refused_error, refused_script, rest_shorter, length_some}
+use Rattle.nk_script.specs.Answers.{IsLineAnswer, IsTaken, Blames, IsScriptOrMemory, IsErrorOrMemory}
+use Rattle.nk_script.proofs.Playable.{text_playable}
+use Rattle.nk_script.proofs.Reading.{IsAt, at_next, refused_error, refused_only, refused_script, rest_shorter, length_some, text_read}
 use Rattle.nk_script.proofs.read.read_script.Goals as goal
 
 pub returns-in-Err-clause-every : goal.returns-in-Err-clause-every
@@ -17,6 +18,18 @@ returns-in-Err-clause-line c =
     let answer = subst (λ (t : List ℕ). IsLineAnswer c.loop-rest.reader t (Err c.in-Err.refusal) c.read_next.new.self) c.first_line.ensures.line c.in-Err.ensures in
     subst (Blames c.args.text.now) (sym c.at_line.ensures)
     (refused_error c.args.text.now c.loop-rest.reader c.read_next.new.self c.loop-rest.number c.loop-rest.rest.now c.in-Err.refusal c.loop-rest.invariant some answer)
+
+pub returns-in-Ok-into_script-clause-playable : goal.returns-in-Ok-into_script-clause-playable
+returns-in-Ok-into_script-clause-playable c =
+    text_playable c.in-Ok-into_script.script c.args.text.now
+    (text_read c.args.text.now c.loop-rest.reader c.loop-rest.number c.loop-rest.rest.now c.in-Ok-into_script.script c.loop-rest.invariant (sym c.loop-rest-test.ensures) (sym c.if-not-may_end.ensures) c.in-Ok-into_script.ensures)
+
+pub returns-in-Err-clause-only : goal.returns-in-Err-clause-only
+returns-in-Err-clause-only c number cause h =
+    let some = length_some c.loop-rest.rest.now (sym c.loop-rest-test.ensures) in
+    let answer = subst (λ (t : List ℕ). IsLineAnswer c.loop-rest.reader t (Err c.in-Err.refusal) c.read_next.new.self) c.first_line.ensures.line c.in-Err.ensures in
+    subst (λ (e : ScriptError). IsErrorOrMemory (Err e) number cause) (sym c.at_line.ensures)
+    (refused_only c.args.text.now c.loop-rest.reader c.read_next.new.self c.loop-rest.number c.loop-rest.rest.now c.in-Err.refusal c.loop-rest.invariant some answer number cause h)
 
 pub loop-rest-smaller : goal.loop-rest-smaller
 loop-rest-smaller c =
