@@ -1,0 +1,11 @@
+// The generator: a number makes a script, and the ends of what was played are summed up. This project's own.
+#![tactic(auto)]
+
+mod draws;
+mod make;
+mod tally;
+#[cfg(test)]
+mod tests;
+
+pub use make::make_script;
+pub use tally::summary;
