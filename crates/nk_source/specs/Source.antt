@@ -1,10 +1,11 @@
 -- The source of a response's body. This project's own.
-use Rattle.std.specs.Prelude.{ℕ, suc, ◌≡◌, ◌≤◌, ◌+◌, ◌*◌, List, [], ◌∷◌, length, take, slice_get, Option, Some, None}
+use Rattle.std.specs.Prelude.{ℕ, suc, ◌≡◌, ◌≤◌, ◌*◌, List, [], length, slice_get, Option, Some, None}
 use Rattle.nk_plan.specs.declared.plan.Hop.{Hop}
 use Rattle.nk_plan.specs.declared.plan.Hop.TheVariants as hop
 use Rattle.nk_plan.specs.declared.plan.Finish.{Finish}
 use Rattle.nk_plan.specs.declared.plan.Finish.TheVariants as finish
 use Rattle.nk_source.specs.declared.source.Next.{Next}
+pub use Rattle.nk_plan.specs.Parent.{size_of, offset_of}
 use Rattle.nk_source.specs.declared.source.Next.TheVariants as next
 
 -- the pieces of a body, how it ends, and the number of the next piece
@@ -19,20 +20,15 @@ IsResponse (hop.Fail s) = ⊥
 IsResponse (hop.Redirect code verdict) = ⊥
 IsResponse (hop.Response head pieces end trailers) = length pieces ≤ 65536
 
+-- there is no body
+abbrev pub no_source : Source
+no_source = record { pieces = []; finish = finish.Good; next = 0 }
+
 -- the whole body of a hop is still to come; a hop that is no response has none
 abbrev pub source_of : Hop → Source
-source_of (hop.Fail s) = record { pieces = []; finish = finish.Good; next = 0 }
-source_of (hop.Redirect code verdict) = record { pieces = []; finish = finish.Good; next = 0 }
+source_of (hop.Fail s) = no_source
+source_of (hop.Redirect code verdict) = no_source
 source_of (hop.Response head pieces end trailers) = record { pieces = pieces; finish = end; next = 0 }
-
--- the number of bytes of these pieces
-abbrev pub size_of : List (List ℕ) → ℕ
-size_of [] = 0
-size_of (p ∷ ps) = length p + size_of ps
-
--- the number of bytes before piece k
-abbrev pub offset_of : List (List ℕ) → ℕ → ℕ
-offset_of pieces k = size_of (take k pieces)
 
 -- how a body ends
 abbrev pub end_of : Finish → Next

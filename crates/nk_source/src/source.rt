@@ -2,10 +2,11 @@
 
 ghost use Rattle.std.specs.Prelude.{◌≡◌, ◌≤◌, length, OnOk, OnErr, IfOk, slice_get};
 ghost use Rattle.std.specs.Option.{option_map};
-ghost use Rattle.nk_source.specs.Source.{IsResponse, source_of, next_of, end_of, stepped};
+ghost use Rattle.nk_source.specs.Source.{IsResponse, source_of, no_source, next_of, end_of, stepped};
 
 use nk_base::{Memory, Piece, Status};
 use nk_plan::{Finish, Hop, Pieces};
+use std::alloc::Global;
 use std::marker::Model;
 
 /// What a source gives next.
@@ -56,20 +57,50 @@ impl ResponseSource {
         }
     }
 
+    /// The source of a load that has no body: it is at its end, which is good.
+    pub fn empty(alloc: Global) -> ResponseSource
+        ensures { result ≡ no_source }
+    {
+        ResponseSource {
+            pieces: Pieces::new(alloc),
+            finish: Finish::Good,
+            next: 0,
+            offset: 0,
+        }
+    }
+
     /// Gives the next piece, over the same bytes, or the end, which it repeats.
     pub fn next(&mut self) -> Result<Next, Memory>
         ensures next { IfOk result (λ r. r ≡ next_of self.old) }
         ensures ok { OnOk result (self.new ≡ stepped self.old) }
         ensures err { OnErr result (self.new ≡ self.old) }
     {
+        let next = self.peek()?;
+        self.advance();
+        Ok(next)
+    }
+
+    /// What `next` gives, for a caller that has more to make ready before it goes on.
+    pub fn peek(&self) -> Result<Next, Memory>
+        ensures { IfOk result (λ r. r ≡ next_of self.now) }
+    {
         if self.next == self.pieces.len() {
             return Ok(end_of(self.finish));
         }
         let piece = self.pieces.get(self.next).share()?;
         let offset = self.offset;
-        self.next += 1;
-        self.offset += u64::from(piece.size());
         Ok(Next::Piece { offset, piece })
+    }
+
+    /// Goes on as `next` does, and gives nothing.
+    pub fn advance(&mut self)
+        ensures { self.new ≡ stepped self.old }
+    {
+        if self.next == self.pieces.len() {
+            return;
+        }
+        self.offset += u64::from(self.pieces.get(self.next).size());
+        self.next += 1;
     }
 
     /// The size of the next piece; none at the end.
