@@ -15,6 +15,9 @@ use nk_source::ResponseSource;
 use std::alloc::Global;
 use std::marker::Model;
 
+mod fetch;
+mod sending;
+
 /// A load, and its journal with the room behind it.
 #[derive(Drop)]
 pub struct Load {
