@@ -1,2 +1,4 @@
 pub mod Plans
 pub mod Blocks
+pub mod Bodies
+pub mod Sends

@@ -51,3 +51,10 @@ cases h n f w = elim (cases_lt (h + 1) n) [ inl l ↦ l | inr g ↦ absurd (f (o
 -- a redirect has a hop behind it
 pub redirect_leads : (c : ChannelPlan) (h : ℕ) → Accepted c → IsRedirect (hop_at c h) → h < length c.hops → h + 1 < length c.hops
 redirect_leads c h a r w = cases h (length c.hops) (before_last c h a r) w
+
+-- the trailers of a response may stand behind a good end
+pub response_trailers : (c : ChannelPlan) (h : ℕ) (head : Head) (pieces : List (List ℕ)) (end : Finish) (trailers : List Field) → Accepted c
+    → hop_at c h ≡ Some (hop.Response head pieces end trailers) → AreTrailers ok trailers
+response_trailers c h head pieces end trailers a e =
+    let g : IsGoodHop (hop.Response head pieces end trailers) = good_hop c h (hop.Response head pieces end trailers) a e in
+    record { count = g.1; good = g.0; after_success = λ _. refl }

@@ -15,6 +15,7 @@ use nk_source::ResponseSource;
 use std::alloc::Global;
 use std::marker::Model;
 
+mod body;
 mod fetch;
 mod sending;
 
