@@ -23,7 +23,7 @@ use nk_source::Next;
 impl Load {
     /// Goes on behind the start: a failure stops the load, and a response goes on with its body.
     #[tactic(auto, using(crate::proofs::Blocks::added_more))]
-    fn go_on<B: Out<BackMsg>>(&mut self, back: &mut B) -> Result<Moved, Memory>
+    pub fn go_on<B: Out<BackMsg>>(&mut self, back: &mut B) -> Result<Moved, Memory>
         requires journal_room { 1 < self.old.room }
         requires back_room { 0 < B.room back.old }
         requires phase { self.old.state.phase ≡ phase.Body }
