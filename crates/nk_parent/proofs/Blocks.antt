@@ -1,5 +1,5 @@
 -- What a step added to the journal.
-use Rattle.std.proofs.Common.{◌≡◌, List, [], ◌∷◌, ◌++◌, length, drop}
+use Rattle.std.proofs.Common.{◌≡◌, List, [], ◌++◌, length, drop}
 use Rattle.std.proofs.Math.Seq.{drop-append_seam, drop-length}
 use Rattle.nk_plan.specs.declared.journal.ParentEntry.{ParentEntry}
 

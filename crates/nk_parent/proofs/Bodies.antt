@@ -1,5 +1,5 @@
 -- The hop at which a load sends its body is the plan's last.
-use Rattle.std.proofs.Common.{ℕ, ◌≡◌, ◌+◌, ◌-◌, ◌<◌, ◌≤◌, refl, sym, ◌∙◌, subst, ap, List, length, take, slice_get, get_or, Option, Some, None, ◌⊎◌, inl, inr, arith}
+use Rattle.std.proofs.Common.{ℕ, ◌≡◌, ◌+◌, ◌-◌, ◌<◌, refl, sym, ◌∙◌, subst, ap, List, length, take, slice_get, get_or, Option, Some, None, inl, inr, arith}
 use Rattle.std.proofs.lemmas.Bool.{cases_lt}
 use Rattle.std.proofs.lemmas.Option.{get_or_from_slice_get}
 use Rattle.std.proofs.lemmas.List.{get_or-take, length-take}
@@ -8,7 +8,7 @@ use Rattle.nk_plan.specs.declared.plan.ChannelPlan.{ChannelPlan}
 use Rattle.nk_plan.specs.declared.plan.Hop.{Hop}
 use Rattle.nk_plan.specs.declared.plan.Hop.TheVariants as hop
 use Rattle.nk_plan.specs.declared.plan.Finish.{Finish}
-use Rattle.nk_plan.specs.Accepted.{Accepted, IsRedirect, last_of, body_of, pieces_of}
+use Rattle.nk_plan.specs.Accepted.{Accepted, IsRedirect, last_of, pieces_of}
 use Rattle.nk_plan.specs.Plan.{hop_at, hop_pieces, pieces_at}
 use Rattle.nk_plan.specs.Parent.{ParentState, fetch_body, fetch_piece}
 use Rattle.nk_base.specs.declared.status.Status.{Status}
@@ -41,8 +41,8 @@ last : (c : ChannelPlan) (h : ℕ) (o : Option Hop) → Accepted c → h < lengt
 last c h None a w e r = absurd r
 last c h (Some x) a w e r =
     elim (cases_lt (h + 1) (length c.hops)) [
-      inl l ↦ absurd (not_both x (leads c h x a e l) r)
-    | inr g ↦ ap (λ i. slice_get c.hops i) (omega (arith, g, w))
+      | inl l ↦ absurd (not_both x (leads c h x a e l) r)
+      | inr g ↦ ap (λ i. slice_get c.hops i) (omega (arith, g, w))
     ]
 
 -- a response is the last hop

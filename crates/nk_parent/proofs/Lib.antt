@@ -2,3 +2,4 @@ pub mod Plans
 pub mod Blocks
 pub mod Bodies
 pub mod Sends
+pub mod Runs

@@ -1,9 +1,8 @@
 -- What an accepted plan says of the hop at which a load stands.
-use Rattle.std.proofs.Common.{ℕ, suc, zero, ◌≡◌, ◌+◌, ◌-◌, ◌<◌, ◌≤◌, refl, sym, ◌∙◌, subst, ap, true, List, length, take, All, slice_get, Option, Some, None, ◌⊎◌, inl, inr, arith}
+use Rattle.std.proofs.Common.{ℕ, ◌≡◌, ◌+◌, ◌-◌, ◌<◌, refl, sym, subst, true, List, length, All, slice_get, Option, Some, None, inl, inr, arith}
 use Rattle.std.specs.Option.{IsSomeAnd}
 use Rattle.std.proofs.lemmas.Bool.{cases_lt}
-use Rattle.std.proofs.lemmas.Option.{slice_get_within, get_or_from_slice_get, slice_get-get_or}
-use Rattle.std.proofs.lemmas.List.{get_or-take, length-take}
+use Rattle.std.proofs.lemmas.Option.{slice_get_within, get_or_from_slice_get}
 use Rattle.std.proofs.lemmas.List.Elements.{All-get_or}
 use Rattle.nk_base.specs.declared.status.Status.{Status}
 use Rattle.nk_base.specs.declared.field.Field.{Field}
@@ -15,12 +14,10 @@ use Rattle.nk_plan.specs.declared.plan.Hop.{Hop}
 use Rattle.nk_plan.specs.declared.plan.Hop.TheVariants as hop
 use Rattle.nk_plan.specs.declared.plan.Verdict.{Verdict}
 use Rattle.nk_plan.specs.declared.plan.Finish.{Finish}
-use Rattle.nk_plan.specs.Accepted.{Accepted, IsGoodHop, last_of, body_of}
+use Rattle.nk_plan.specs.Accepted.{Accepted, IsGoodHop, last_of}
 use Rattle.nk_plan.specs.Accepted.{IsRedirect as IsRedirectHop}
 use Rattle.nk_plan.specs.Lanes.{IsRedirect}
 use Rattle.nk_plan.specs.Plan.{hop_at}
-use Rattle.nk_plan.specs.Parent.{ParentState, fetch_body, fetch_piece}
-use Rattle.nk_parent.specs.Load.{IsResponse, finish_of}
 
 -- each item of a list has a property that all have
 each : {A : Type 0} (P : A → Type 0) (xs : List A) (i : ℕ) (x : A) → All P xs → slice_get xs i ≡ Some x → P x

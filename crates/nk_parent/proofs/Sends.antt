@@ -1,5 +1,5 @@
 -- The rows of the parent's table behind the start.
-use Rattle.std.proofs.Common.{ℕ, suc, ◌≡◌, ◌++◌, ◌∷◌, [], refl, sym, ◌∙◌, subst, ap, List, slice_get, Option, Some, None, true, false, not, ◌||◌, if◌then◌else◌, is_some, int_lt, pos, ◌-ℤ◌, ◌-◌, length}
+use Rattle.std.proofs.Common.{ℕ, suc, ◌≡◌, ◌++◌, ◌∷◌, [], refl, sym, ◌∙◌, subst, ap, List, slice_get, Option, Some, None, true, not, ◌||◌, if◌then◌else◌, is_some, int_lt, pos, ◌-ℤ◌, ◌-◌, length}
 use Rattle.nk_base.specs.declared.status.Status.{Status}
 use Rattle.nk_base.specs.declared.field.Field.{Field}
 use Rattle.nk_base.specs.declared.message.BackMsg.TheVariants as sent
@@ -8,10 +8,9 @@ use Rattle.nk_plan.specs.declared.journal.ParentEntry.TheVariants as entry
 use Rattle.nk_plan.specs.declared.plan.ChannelPlan.{ChannelPlan}
 use Rattle.nk_plan.specs.declared.plan.Hop.{Hop}
 use Rattle.nk_plan.specs.declared.plan.Hop.TheVariants as hop
-use Rattle.nk_plan.specs.declared.plan.Finish.{Finish}
 use Rattle.nk_plan.specs.declared.plan.Finish.TheVariants as finish
 use Rattle.nk_plan.specs.declared.step.Phase.TheVariants as phase
-use Rattle.nk_plan.specs.Accepted.{Accepted, IsGoodHop, last_of}
+use Rattle.nk_plan.specs.Accepted.{IsGoodHop, last_of}
 use Rattle.nk_plan.specs.Plan.{hop_at, pieces_at, trailers_at, stop_trailers}
 use Rattle.nk_plan.specs.Enabled.{body_enabled}
 use Rattle.nk_plan.specs.Parent.{ParentState, fetch_body, fetch_piece, fetch_finish, offset_of}

@@ -3,6 +3,6 @@
 #![tactic(auto)]
 
 mod load;
+mod parent;
 
-
-pub use load::Load;
+pub use parent::Parent;

@@ -4,16 +4,18 @@ ghost use Rattle.std.specs.Prelude.{◌≡◌, ◌++◌, ◌∷◌, ◌<◌, ◌
 ghost use Rattle.nk_plan.specs.Accepted.{Accepted, body_of, last_of};
 ghost use Rattle.nk_plan.specs.Parent.{ParentState, new_parent, take_up};
 ghost use Rattle.nk_base.specs.declared.message.UpMsg.TheVariants as up;
+ghost use Rattle.nk_plan.specs.Failure.{kept_status};
 ghost use Rattle.nk_parent.specs.Load.{IsBody};
 
 use nk_base::{Grow, Memory, Status, UpMsg};
 use nk_cancel::First;
 use nk_flow::Window;
-use nk_plan::{ChannelPlan, Hop, ParentEntry, Phase};
+use nk_plan::{ChannelPlan, Hop, ParentEntry, ParentJournal, Phase};
 use nk_redirect::{ParentHalf, Verified};
 use nk_source::ResponseSource;
 use std::alloc::Global;
 use std::marker::Model;
+use std::mem::replace;
 
 mod body;
 mod fetch;
@@ -80,6 +82,64 @@ impl Load {
             journal: Grow::new(alloc),
             plan,
         })
+    }
+
+    /// The allocator of its lists.
+    pub fn alloc(&self) -> Global {
+        self.alloc
+    }
+
+    /// Takes the journal over, with the room that it has.
+    pub fn put_journal(&mut self, journal: ParentJournal)
+        ensures plan { self.new.plan ≡ self.old.plan }
+        ensures state { self.new.state ≡ record self.old.state { journal = journal } }
+    {
+        self.journal = journal.into_grow();
+    }
+
+    /// Gives the journal away.
+    pub fn take_journal(&mut self) -> ParentJournal
+        ensures journal { result ≡ self.old.state.journal }
+        ensures plan { self.new.plan ≡ self.old.plan }
+        ensures state { self.new.state ≡ record self.old.state { journal = [] } }
+    {
+        ParentJournal::from_grow(replace(&mut self.journal, Grow::new(self.alloc)))
+    }
+
+    /// The plan of the load.
+    pub fn plan(&self) -> &ChannelPlan
+        ensures plan { result.now ≡ self.now.plan }
+        ensures accepted { Accepted self.now.plan }
+    {
+        &self.plan
+    }
+
+    /// Where the load stands.
+    pub fn phase(&self) -> Phase
+        ensures { result ≡ self.now.state.phase }
+    {
+        self.phase
+    }
+
+    /// Whether the page has suspended the load.
+    pub fn is_suspended(&self) -> bool
+        ensures { result ≡ self.now.state.suspended }
+    {
+        self.suspended
+    }
+
+    /// How many bytes the page may still be sent.
+    pub fn credit(&self) -> i64
+        ensures { result ≡ self.now.state.credit }
+    {
+        self.window.credit()
+    }
+
+    /// The failure that is kept, or 0.
+    pub fn status(&self) -> Status
+        ensures { result ≡ kept_status self.now.state.kept }
+    {
+        self.failure.get()
     }
 
     /// Takes a message of the up lane.

@@ -126,7 +126,15 @@ impl Load {
         ensures back_conserved { B.room back.new + length (B.staged back.new) ≡ B.room back.old + length (B.staged back.old) }
     {
         let status = self.failure.get();
-        send_start(self.plan.start, self.hop, status, head, &mut self.journal, main, back)?;
+        send_start(
+            self.plan.start,
+            self.hop,
+            status,
+            head,
+            &mut self.journal,
+            main,
+            back,
+        )?;
         self.phase = Phase::Body;
         Ok(())
     }
@@ -168,7 +176,15 @@ impl Load {
             }
             Begin::Loop => {
                 let status = Status::REDIRECT_LOOP;
-                send_start(self.plan.start, hop, status, head, &mut self.journal, main, back)?;
+                send_start(
+                    self.plan.start,
+                    hop,
+                    status,
+                    head,
+                    &mut self.journal,
+                    main,
+                    back,
+                )?;
                 self.failure.merge(status);
                 self.phase = Phase::Body;
                 Ok(())

@@ -24,10 +24,10 @@ returns-in_ok-send_piece-in-Piece-clause-state g c =
     let h : Here v.plan v.state c.self.inside.body = here_of v _ _ _ c.self.inside.redirects c.self.inside.window c.self.inside.body c.self.view_is c.self.invariant refl c.requires.phase c.requires.kept in
     let piece = gives_piece c.self.inside.body (slice_get c.self.inside.body.pieces c.self.inside.body.next) c.in-Piece.offset c.in-Piece.piece (sym c.in_ok-offset.ensures ∙ c.in-Piece.is) in
     let credit : int_lt (pos 0) v.state.credit ≡ true =
-      elim c.else-is_some.branch [
-        else-is_some-via-then-is_some+else-not-may_send w ↦ subst (λ (x : LoadView). int_lt (pos 0) x.state.credit ≡ true) c.self.view_is (sym w.may_send.ensures ∙ w.if-not-may_send.false)
+    elim c.else-is_some.branch [
+      | else-is_some-via-then-is_some+else-not-may_send w ↦ subst (λ (x : LoadView). int_lt (pos 0) x.state.credit ≡ true) c.self.view_is (sym w.may_send.ensures ∙ w.if-not-may_send.false)
       | else-is_some-via-else-is_some w ↦ absurd (there _ c.in-Piece.piece c.peek_size.result piece.0 c.peek_size.ensures w.if-is_some.ensures)
-      ] in
+    ] in
     c.in_ok-send_piece-in-Piece.ensures.state ∙ piece_row v.plan v.state c.self.inside.body c.in-Piece.offset c.in-Piece.piece h c.requires.phase credit (sym c.in_ok-offset.ensures ∙ c.in-Piece.is)
 
 pub returns-in_ok-stop-in-EndOk-clause-state : goal.returns-in_ok-stop-in-EndOk-clause-state
