@@ -6,3 +6,6 @@ mod load;
 mod parent;
 
 pub use parent::Parent;
+
+#[cfg(test)]
+mod tests;
