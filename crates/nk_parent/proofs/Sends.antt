@@ -1,5 +1,5 @@
 -- The rows of the parent's table behind the start.
-use Rattle.std.proofs.Common.{ℕ, suc, ◌≡◌, ◌++◌, ◌∷◌, [], refl, sym, ◌∙◌, subst, ap, List, slice_get, Option, Some, None, true, not, ◌||◌, if◌then◌else◌, is_some, int_lt, pos, ◌-ℤ◌, ◌-◌, length}
+use Rattle.std.proofs.Common.{ℕ, suc, ◌≡◌, ◌++◌, ◌∷◌, [], refl, sym, ◌∙◌, subst, ap, List, slice_get, Option, Some, None, Bool, true, false, not, ◌||◌, if◌then◌else◌, is_some, int_lt, pos, ◌-ℤ◌, ◌-◌, length}
 use Rattle.nk_base.specs.declared.status.Status.{Status}
 use Rattle.nk_base.specs.declared.field.Field.{Field}
 use Rattle.nk_base.specs.declared.message.BackMsg.TheVariants as sent
@@ -10,15 +10,15 @@ use Rattle.nk_plan.specs.declared.plan.Hop.{Hop}
 use Rattle.nk_plan.specs.declared.plan.Hop.TheVariants as hop
 use Rattle.nk_plan.specs.declared.plan.Finish.TheVariants as finish
 use Rattle.nk_plan.specs.declared.step.Phase.TheVariants as phase
-use Rattle.nk_plan.specs.Accepted.{IsGoodHop, last_of}
-use Rattle.nk_plan.specs.Plan.{hop_at, pieces_at, trailers_at, stop_trailers}
+use Rattle.nk_plan.specs.Accepted.{IsGoodHop, last_of, body_of}
+use Rattle.nk_plan.specs.Plan.{hop_at, trailers_at, stop_trailers}
 use Rattle.nk_plan.specs.Enabled.{body_enabled}
 use Rattle.nk_plan.specs.Parent.{ParentState, fetch_body, fetch_piece, fetch_finish, offset_of}
 use Rattle.nk_source.specs.Source.{Source, next_of}
 use Rattle.nk_source.specs.declared.source.Next.TheVariants as next
 use Rattle.nk_parent.specs.Load.{finish_of}
 use Rattle.nk_parent.proofs.Plans.{good_hop}
-use Rattle.nk_parent.proofs.Bodies.{Here, body_here, pieces_here, gives_piece, ends_well, ends_badly}
+use Rattle.nk_parent.proofs.Bodies.{Here, body_here, gives_piece, ends_well, ends_badly}
 
 -- the row of the body, by what the source stands at
 row : (c : ChannelPlan) (s : ParentState) (b : Source) (o : Option (List ℕ)) → Here c s b → slice_get b.pieces b.next ≡ o
@@ -71,15 +71,20 @@ fail_row c s b st trailers h e t =
     ap (λ x. record s { phase = phase.Done; kept = Some st; journal = s.journal ++ entry.SentBack (sent.Stop s.hop st x) ∷ [] }) (t ∙ sym none)
     ∙ (sym (ap (λ x. fetch_finish c s x) g.1) ∙ sym (row c s b None h g.0))
 
--- at the end of the body the row is enabled
-end_enabled : (c : ChannelPlan) (s : ParentState) (b : Source) → Here c s b → slice_get b.pieces b.next ≡ None → body_enabled s None (pieces_at c s.hop) ≡ true
-end_enabled c s b h e =
-    let none : slice_get (pieces_at c s.hop) s.piece ≡ None =
-    ap (λ ps. slice_get ps s.piece) (pieces_here c s.hop b h.accepted h.source h.within h.response) ∙ (ap (λ i. slice_get b.pieces i) (sym h.place) ∙ e) in
-    ap (λ x. not (is_some x) || int_lt (pos 0) s.credit) none
+-- What is known where a piece does not wait
 
-pub end_enabled_well : (c : ChannelPlan) (s : ParentState) (b : Source) → Here c s b → next_of b ≡ next.EndOk → body_enabled s None (pieces_at c s.hop) ≡ true
-end_enabled_well c s b h e = end_enabled c s b h (ends_well b b.finish (slice_get b.pieces b.next) refl e).0
+not_not : (x : Bool) → not (not x) ≡ x
+not_not true = refl
+not_not false = refl
 
-pub end_enabled_badly : (c : ChannelPlan) (s : ParentState) (b : Source) (st : Status) → Here c s b → next_of b ≡ next.EndFail st → body_enabled s None (pieces_at c s.hop) ≡ true
-end_enabled_badly c s b st h e = end_enabled c s b h (ends_badly b b.finish (slice_get b.pieces b.next) st refl e).0
+spent : (o : Option (List ℕ)) (p : List ℕ) (x : Bool) → o ≡ Some p → not (not (is_some o) || x) ≡ false → x ≡ true
+spent None p x e f = absurd (cc)
+spent (Some q) p x e f = sym (not_not x) ∙ ap not f
+
+-- a piece that does not wait has credit
+pub credit_left : (c : ChannelPlan) (s : ParentState) (b : Source) (offset : ℕ) (p : List ℕ) (waits : Bool) → Here c s b → next_of b ≡ next.Piece offset p
+    → waits ≡ not (body_enabled s None (body_of c)) → waits ≡ false → int_lt (pos 0) s.credit ≡ true
+credit_left c s b offset p waits h g e f =
+    let here : not (body_enabled s None b.pieces) ≡ false = ap (λ ps. not (body_enabled s None ps)) h.source.pieces ∙ (sym e ∙ f) in
+    let at : slice_get b.pieces s.piece ≡ Some p = ap (λ i. slice_get b.pieces i) (sym h.place) ∙ (gives_piece b (slice_get b.pieces b.next) offset p g).0 in
+    spent (slice_get b.pieces s.piece) p (int_lt (pos 0) s.credit) at here

@@ -1,6 +1,6 @@
 // What a parent sends behind the start: the pieces of the body as far as there is credit, and the stop.
 
-ghost use Rattle.std.specs.Prelude.{◌≡◌, ◌++◌, ◌∷◌, ◌<◌, ◌+◌, suc, [], length, slice_get, int_lt, pos, ◌-ℤ◌, true, false, OnOk, OnErr, IfOk, Some, None};
+ghost use Rattle.std.specs.Prelude.{◌≡◌, ◌++◌, ◌∷◌, ◌<◌, ◌+◌, suc, [], length, slice_get, int_lt, pos, ◌-ℤ◌, true, false, not, OnOk, OnErr, IfOk, Some, None};
 ghost use Rattle.nk_base.specs.Ranges.{AreTrailers};
 ghost use Rattle.nk_base.specs.Status.{is_legal_status, ok};
 ghost use Rattle.nk_base.specs.declared.message.BackMsg.TheVariants as sent;
@@ -89,6 +89,13 @@ impl Load {
         }
     }
 
+    /// Whether a piece is next, and there is no credit for it.
+    fn waits(&self) -> bool
+        ensures { result ≡ not (body_enabled self.now.state None (body_of self.now.plan)) }
+    {
+        self.body.peek_size().is_some() && !self.window.may_send()
+    }
+
     /// Sends the next piece, where there is one and credit for it, or the end.
     #[tactic(auto, using(crate::proofs::Blocks::added_more, crate::proofs::Blocks::added_none, crate::proofs::Bodies::body_here, crate::proofs::Bodies::pieces_here))]
     fn send_body<B: Out<BackMsg>>(&mut self, back: &mut B) -> Result<Moved, Memory>
@@ -105,7 +112,7 @@ impl Load {
         ensures back_staged { OnOk result (B.staged back.new ≡ B.staged back.old ++ backs_sent (added self.old.state self.new.state)) }
         ensures back_conserved { B.room back.new + length (B.staged back.new) ≡ B.room back.old + length (B.staged back.old) }
     {
-        if self.body.peek_size().is_some() && !self.window.may_send() {
+        if self.waits() {
             return Ok(Moved::Idle);
         }
         match self.body.peek()? {
