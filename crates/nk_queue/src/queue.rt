@@ -1,6 +1,6 @@
 // The queue machine over a chain. Its state is the definition's, and each call is one of its rules.
 
-ghost use Rattle.std.specs.Prelude.{◌≡◌, ◌+◌, ◌-◌, ◌<◌, ◌≤◌, ◌||◌, length, IsTrue, OnOk, OnErr, nat_lt, slice_index, if◌then◌else◌};
+ghost use Rattle.std.specs.Prelude.{◌≡◌, ◌+◌, ◌-◌, ◌<◌, ◌≤◌, ◌||◌, length, IsTrue, IfSome, OnOk, OnErr, nat_lt, slice_index, if◌then◌else◌};
 ghost use Rattle.std.specs.Option.{option_copied};
 ghost use Rattle.nk_base.specs.Queue.{LegalQueue, IsTarget, HasTarget, MayPost, empty_queue, target_number, target_in, is_target, has_some, is_busy, is_posted, runs_now, offer_leaves, posted_to, raised, suspended_once, resumed_once, resume_answer, completed, complete_answer, forced_once, unforced, unforced_answer, prepended, cleared, retargeted, take_leaves, take_spare};
 ghost use Rattle.nk_chain.specs.Chain.{items_of};
@@ -60,6 +60,7 @@ impl<E: Classed> Model for EventQueue<E> {
 pub(crate) fn number(t: Target) -> usize
     ensures number { result ≡ target_number t }
     ensures small { IsTarget t → result < 18 }
+    ensures target { result < 18 → IsTarget t }
 {
     match t {
         Target::Main => 0,
@@ -136,17 +137,28 @@ impl<E: Classed> EventQueue<E> {
 
     /// The target whose flush is under way.
     pub fn flushing(&self) -> Option<Target>
-        ensures { result ≡ self.now.state.flushing }
+        ensures flushing { result ≡ self.now.state.flushing }
+        ensures target { IfSome result IsTarget }
     {
         self.flushing
     }
 
-    /// How many tasks are posted to `t`.
+    /// How many tasks are posted to `t`: none to a worker outside 1 to 16.
     pub fn posted(&self, t: Target) -> usize
-        requires { IsTarget t }
-        ensures { result ≡ posted_to self.now.state t }
+        ensures posted { result ≡ posted_to self.now.state t }
+        ensures target { 0 < result → IsTarget t }
     {
-        self.posted[number(t)]
+        match self.posted.get(number(t)) {
+            Some(n) => *n,
+            None => 0,
+        }
+    }
+
+    /// How many suspends were not resumed.
+    pub fn count(&self) -> usize
+        ensures { result ≡ self.now.state.count }
+    {
+        self.count
     }
 
     /// Whether the flag is on.

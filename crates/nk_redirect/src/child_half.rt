@@ -53,17 +53,27 @@ impl ChildHalf {
         self.question
     }
 
+    /// What the open question is answered: the given status where that is a failure, else the verdict.
+    pub fn answer(&self, status: Status, verdict: Verdict) -> Answer
+        ensures { result ≡ verdict_answer self.now status verdict }
+    {
+        match self.question {
+            None => Answer::Idle,
+            Some(hop) => {
+                let status = verdict_status(status, verdict);
+                Answer::Verify { hop, status }
+            }
+        }
+    }
+
     /// Answers the open question and closes it: with the given status where that is a failure, else by the verdict.
     pub fn verdict(&mut self, status: Status, verdict: Verdict) -> Answer
         ensures answer { result ≡ verdict_answer self.old status verdict }
         ensures closed { self.new ≡ None }
     {
-        let Some(hop) = self.question else {
-            return Answer::Idle;
-        };
+        let answer = self.answer(status, verdict);
         self.question = None;
-        let status = verdict_status(status, verdict);
-        Answer::Verify { hop, status }
+        answer
     }
 }
 

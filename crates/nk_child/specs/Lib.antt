@@ -1,0 +1,7 @@
+pub mod Events
+pub mod Moved
+pub mod Reactions
+pub mod Running
+pub mod Shown
+pub mod Steps
+pub mod Views

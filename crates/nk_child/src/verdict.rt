@@ -1,0 +1,69 @@
+// The question on a redirect is answered.
+
+ghost use Rattle.std.specs.Prelude.{◌≡◌, ◌++◌, ◌∷◌, ◌<◌, ◌+◌, [], IfOk, OnOk, OnErr, length, true};
+ghost use Rattle.nk_base.specs.Status.{is_legal_status};
+ghost use Rattle.nk_redirect.specs.Verdict.{veto_of};
+ghost use Rattle.nk_plan.specs.Plan.{hop_at};
+ghost use Rattle.nk_plan.specs.Child.{hop_verdict, child_step};
+ghost use Rattle.nk_plan.specs.Enabled.{child_enabled};
+ghost use Rattle.nk_plan.specs.declared.step.ChildStep.TheVariants as step;
+ghost use Rattle.nk_child.specs.Moved.{moved_if};
+ghost use Rattle.nk_child.specs.Views.{HasRoom, Gains};
+
+use crate::work::Work;
+use nk_base::{Memory, Moved, Out, UpMsg};
+use nk_plan::{ChildEntry, Hop, Verdict};
+use nk_redirect::Answer;
+
+impl Work {
+    /// What the plan says of a redirect: it is allowed where that hop is none.
+    #[tactic(auto, using(crate::proofs::Ranges::all_at))]
+    fn plan_verdict(&self, hop: u32) -> Verdict
+        ensures veto { veto_of result ≡ hop_verdict (hop_at self.now.plan hop) }
+        ensures legal { is_legal_status (veto_of result) ≡ true }
+    {
+        let hop = hop as usize;
+        if hop >= self.plan.hops.len() {
+            return Verdict::Allow;
+        }
+        match self.plan.hops.get(hop) {
+            Hop::Redirect { verdict, .. } => *verdict,
+            Hop::Fail(_) => Verdict::Allow,
+            Hop::Response { .. } => Verdict::Allow,
+        }
+    }
+
+    /// The question that is open is answered.
+    #[tactic(auto, using(crate::proofs::Same::answered, crate::proofs::Gains::gains, crate::proofs::Gains::gains_none))]
+    pub(crate) fn verdict<U: Out<UpMsg>>(&mut self, up: &mut U) -> Result<Moved, Memory>
+        requires rooms { HasRoom 1 0 self.old.rooms }
+        requires up { 0 < U.room up.old }
+        ensures plan { self.new.plan ≡ self.old.plan }
+        ensures state { OnOk result (self.new.state ≡ child_step self.old.plan step.Verdict self.old.state) }
+        ensures answer { IfOk result (λ r. r ≡ moved_if (child_enabled self.old.plan step.Verdict self.old.state)) }
+        ensures sent { OnOk result (Gains self.old.state.sent self.new.state.sent (U.staged up.old) (U.staged up.new)) }
+        ensures trace { self.new.state.trace ≡ self.old.state.trace }
+        ensures err { OnErr result (self.new ≡ self.old) }
+        ensures held { U.held up.new ≡ U.held up.old }
+        ensures room { U.room up.new + length (U.staged up.new) ≡ U.room up.old + length (U.staged up.old) }
+    {
+        if self.broken {
+            return Ok(Moved::Idle);
+        }
+        let Some(hop) = self.question.asked() else {
+            return Ok(Moved::Idle);
+        };
+        let kept = self.status();
+        let verdict = self.plan_verdict(hop);
+        match self.question.answer(kept, verdict) {
+            Answer::Idle => Ok(Moved::Idle),
+            Answer::Verify { hop, status } => {
+                up.stage(UpMsg::Verify { hop, status })?;
+                let _ = self.question.verdict(kept, verdict);
+                self.sent.push(UpMsg::Verify { hop, status });
+                self.note(ChildEntry::Verdict { hop, status });
+                Ok(Moved::Did)
+            }
+        }
+    }
+}
