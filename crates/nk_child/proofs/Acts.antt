@@ -1,5 +1,5 @@
 -- The page's next call is performed where it is due.
-use Rattle.std.proofs.Common.{ℕ, suc, ◌≡◌, ◌∙◌, refl, Bool, true, false, not, ◌&&◌, ◌||◌, if◌then◌else◌, nat_le, slice_get, Option, Some, None}
+use Rattle.std.proofs.Common.{suc, ◌≡◌, ◌∙◌, refl, Bool, true, false, not, ◌&&◌, ◌||◌, if◌then◌else◌, nat_le, slice_get, Option, Some, None, is_some}
 use Rattle.nk_plan.specs.declared.plan.ChannelPlan.{ChannelPlan}
 use Rattle.nk_plan.specs.declared.plan.Act.{Act}
 use Rattle.nk_plan.specs.declared.plan.Control.{Control}
@@ -54,3 +54,11 @@ pub one_due : (c : ChannelPlan) (s : ChildState) (a : Act) → c.closed ≡ fals
 one_due c s a p q e =
     let n = one_due_of c (slice_get c.controls s.next) s a e in
     ((opened_act c s p q).0 ∙ n.0, (opened_act c s p q).1 ∙ n.1)
+
+due_if : (b : Bool) (a : Act) → b ≡ is_some (if b then Some a else None)
+due_if true a = refl
+due_if false a = refl
+
+pub due_told : (s : ChildState) (o : Option Control) → is_due s o ≡ is_some (due_act s o)
+due_told s None = refl
+due_told s (Some control) = due_if (nat_le control.after s.finished) control.act

@@ -3,7 +3,6 @@
 use Rattle.std.proofs.Common.{ℕ, suc, ◌≡◌, ◌≤◌, ◌==◌, if◌then◌else◌, List, [], ◌∷◌, length, arith, refl, ap, ◌∙◌, Bool, true, false, not, ◌&&◌, Option, Some, None}
 use Rattle.nk_base.specs.declared.message.BackMsg.{BackMsg}
 use Rattle.nk_base.specs.Hold.{back_hop, of_hop}
-use Rattle.nk_base.specs.declared.status.Target.{Target}
 use Rattle.nk_base.specs.declared.status.Target.TheVariants as target
 use Rattle.nk_base.specs.Queue.{Queue, same_target, target_in, is_busy, runs_now}
 use Rattle.nk_plan.specs.declared.event.ChildEvent.{ChildEvent}

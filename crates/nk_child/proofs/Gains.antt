@@ -1,5 +1,5 @@
 -- What was made ready is what a list has gained.
-use Rattle.std.proofs.Common.{◌≡◌, ◌++◌, refl, sym, ◌∙◌, ap, List, [], ◌∷◌, length, drop, append_assoc, Option, Some, None}
+use Rattle.std.proofs.Common.{◌≡◌, ◌++◌, sym, ◌∙◌, ap, List, [], ◌∷◌, length, drop, append_assoc, Option, Some, None}
 use Rattle.std.proofs.Math.Seq.{drop-append_seam, drop-length}
 use Rattle.nk_laws.proofs.Tools.{append_nil}
 use Rattle.nk_child.specs.Shown.{with_shown}

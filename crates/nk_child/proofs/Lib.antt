@@ -1,6 +1,10 @@
 pub mod Acts
 pub mod Backs
+pub mod Begun
+pub mod Counts
+pub mod Ends
 pub mod Gains
 pub mod Ranges
 pub mod Reacting
 pub mod Same
+pub mod Stays

@@ -1,5 +1,5 @@
 -- What the reactions of a start do and send, one after the other.
-use Rattle.std.proofs.Common.{ℕ, zero, suc, ◌≡◌, ◌+◌, ◌<◌, ◌≤◌, refl, sym, ◌∙◌, ap, add-one, List, [], ◌∷◌, ◌++◌, length, drop, slice_get, Bool, true, false, not, ◌||◌, ◌==◌, nat_lt, if◌then◌else◌, Option, Some, None, is_some, append_assoc, arith, All, ◌⊎◌, inl, inr}
+use Rattle.std.proofs.Common.{ℕ, zero, suc, ◌≡◌, ◌+◌, ◌≤◌, refl, sym, ◌∙◌, ap, add-one, List, [], ◌∷◌, ◌++◌, length, drop, slice_get, Bool, true, false, not, ◌||◌, ◌==◌, nat_lt, if◌then◌else◌, Option, Some, None, is_some, append_assoc, arith, All, inl, inr}
 use Rattle.std.proofs.Math.ListN.{drop_of_length-le}
 use Rattle.std.proofs.lemmas.Bool.{eqb-true}
 use Rattle.std.proofs.lemmas.Bool.Decides.{nat_tests, eqb_tells}
@@ -11,13 +11,12 @@ use Rattle.nk_base.specs.declared.message.UpMsg.{UpMsg}
 use Rattle.nk_base.specs.declared.message.UpMsg.TheVariants as up
 use Rattle.nk_base.specs.Status.{is_failure}
 use Rattle.nk_plan.specs.declared.plan.ChannelPlan.{ChannelPlan}
-use Rattle.nk_plan.specs.declared.plan.Act.TheVariants as act
 use Rattle.nk_plan.specs.declared.plan.Reaction.{Reaction}
 use Rattle.nk_plan.specs.declared.plan.Reaction.TheVariants as reaction
 use Rattle.nk_plan.specs.declared.journal.ChildEntry.TheVariants as child
 use Rattle.nk_plan.specs.Accepted.{IsGoodReaction}
 use Rattle.nk_plan.specs.Failure.{merged, or_else}
-use Rattle.nk_plan.specs.Child.{ChildState, with_entry, perform_call, call_suspend, call_cancel, call_retarget, refusal, react, react_all, bytes_failure}
+use Rattle.nk_plan.specs.Child.{ChildState, with_entry, call_suspend, call_cancel, call_retarget, refusal, react, react_all, bytes_failure}
 use Rattle.nk_child.specs.Reactions.{reaction_sends, suspended_by, failed_by, reactions_send, start_sends, failure_of}
 
 -- the items from the one at i on

@@ -1,7 +1,6 @@
 -- The rules of the parts are those of the child's table.
-use Rattle.std.proofs.Common.{ℕ, ◌≡◌, refl, ap, Bool, true, false, not, ◌||◌, ◌==◌, if◌then◌else◌, Option, Some, None, is_some}
+use Rattle.std.proofs.Common.{ℕ, ◌≡◌, refl, ap, Bool, true, false, not, ◌==◌, if◌then◌else◌, Option, Some, None, is_some}
 use Rattle.nk_base.specs.declared.status.Status.{Status}
-use Rattle.nk_base.specs.declared.status.RetargetError.{RetargetError}
 use Rattle.nk_base.specs.declared.status.RetargetError.TheVariants as refused_for
 use Rattle.nk_base.specs.Status.{is_failure, is_legal_status}
 use Rattle.nk_plan.specs.declared.plan.ChannelPlan.{ChannelPlan}

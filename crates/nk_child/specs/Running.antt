@@ -18,3 +18,8 @@ IsForced (Cancel s) forced = Unit {0}
 abbrev pub IsRunning : Option (Target × ChildEvent) → ℕ → Type 0
 IsRunning None forced = Unit {0}
 IsRunning (Some r) forced = IsTarget r.0 × IsForced r.1 forced
+
+-- the target on which a callback runs
+abbrev pub running_target : Option (Target × ChildEvent) → Option Target
+running_target None = None
+running_target (Some r) = Some r.0

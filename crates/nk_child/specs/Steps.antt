@@ -1,5 +1,4 @@
 -- What a step of a child may bring. This project's own.
-use Rattle.nk_base.specs.declared.status.Target.{Target}
 use Rattle.nk_base.specs.Ranges.{IsMainInRange, IsBackInRange}
 use Rattle.nk_plan.specs.declared.step.ChildStep.{ChildStep}
 use Rattle.nk_plan.specs.declared.step.ChildStep.TheVariants as step

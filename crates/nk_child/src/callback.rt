@@ -199,14 +199,20 @@ impl Work {
         ensures sent { self.new.state.sent ≡ self.old.state.sent }
     {
         self.queue.suspend();
-        self.queue.prepend(Queued::new(ChildEvent::Cancel { status }));
+        self.queue
+            .prepend(Queued::new(ChildEvent::Cancel { status }));
         let _ = self.queue.resume();
         self.note(ChildEntry::Prepend(status));
     }
 
     /// A data callback fails on the main target: the channel is cancelled.
     #[tactic(auto, using(crate::proofs::Gains::gains_two))]
-    fn fail_on_main<U: Out<UpMsg>>(&mut self, count: u32, status: Status, up: &mut U) -> Result<(), Memory>
+    fn fail_on_main<U: Out<UpMsg>>(
+        &mut self,
+        count: u32,
+        status: Status,
+        up: &mut U,
+    ) -> Result<(), Memory>
         requires failure { is_failure status ≡ true }
         requires read { IsReadCount count }
         requires rooms { HasRoom 2 1 self.old.rooms }
@@ -234,7 +240,12 @@ impl Work {
 
     /// The data callback returns. Where it fails, the channel is cancelled, from a worker by an event.
     #[tactic(auto, using(crate::proofs::Gains::gains))]
-    fn finish_bytes<U: Out<UpMsg>>(&mut self, t: Target, count: u32, up: &mut U) -> Result<(), Memory>
+    fn finish_bytes<U: Out<UpMsg>>(
+        &mut self,
+        t: Target,
+        count: u32,
+        up: &mut U,
+    ) -> Result<(), Memory>
         requires here { IsTarget t }
         requires read { IsReadCount count }
         requires rooms { HasRoom 2 1 self.old.rooms }
@@ -269,7 +280,13 @@ impl Work {
 
     /// A data callback fails on a worker: a cancel is put in front of what waits.
     #[tactic(auto, using(crate::proofs::Gains::gains))]
-    fn fail_elsewhere<U: Out<UpMsg>>(&mut self, t: Target, count: u32, status: Status, up: &mut U) -> Result<(), Memory>
+    fn fail_elsewhere<U: Out<UpMsg>>(
+        &mut self,
+        t: Target,
+        count: u32,
+        status: Status,
+        up: &mut U,
+    ) -> Result<(), Memory>
         requires failure { is_failure status ≡ true }
         requires read { IsReadCount count }
         requires rooms { HasRoom 2 1 self.old.rooms }

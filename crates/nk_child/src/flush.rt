@@ -39,7 +39,11 @@ impl Work {
     }
 
     /// Gets ready what the listener is shown of an event that runs next.
-    fn stage_shown<D: Out<Entry>>(&self, e: &Queued, delivery: &mut D) -> Result<Option<Entry>, Memory>
+    fn stage_shown<D: Out<Entry>>(
+        &self,
+        e: &Queued,
+        delivery: &mut D,
+    ) -> Result<Option<Entry>, Memory>
         requires room { 0 < D.room delivery.old }
         ensures shown { IfOk result (λ r. r ≡ event_shown self.now.plan self.now.state.hop self.now.state.kept e.now) }
         ensures staged { IfOk result (λ r. D.staged delivery.new ≡ with_shown (D.staged delivery.old) r) }
@@ -82,7 +86,12 @@ impl Work {
 
     /// A flush by this target goes on.
     #[tactic(auto, using(crate::proofs::Gains::gains, crate::proofs::Gains::gains_shown))]
-    fn flush<U: Out<UpMsg>, D: Out<Entry>>(&mut self, t: Target, up: &mut U, delivery: &mut D) -> Result<(), Memory>
+    fn flush<U: Out<UpMsg>, D: Out<Entry>>(
+        &mut self,
+        t: Target,
+        up: &mut U,
+        delivery: &mut D,
+    ) -> Result<(), Memory>
         requires here { IsTarget t }
         requires flushing { is_target self.old.state.queue.flushing t ≡ true }
         requires rooms { HasRoom 2 2 self.old.rooms }

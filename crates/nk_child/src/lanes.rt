@@ -25,7 +25,12 @@ use nk_plan::{ChildEntry, ChildEvent, StartLane};
 impl Work {
     /// Takes a message of the main lane: enters it, and offers its event.
     #[tactic(auto, using(crate::proofs::Gains::gains_shown))]
-    fn take<D: Out<Entry>>(&mut self, taken: ChildEntry, e: Queued, delivery: &mut D) -> Result<(), Memory>
+    fn take<D: Out<Entry>>(
+        &mut self,
+        taken: ChildEntry,
+        e: Queued,
+        delivery: &mut D,
+    ) -> Result<(), Memory>
         requires rooms { HasRoom 2 1 self.old.rooms }
         requires counts { Counted self.old.state }
         requires quiet { event_sends self.old.state.kept e ≡ [] }
@@ -45,7 +50,13 @@ impl Work {
     }
 
     /// A start is queued, and is told to the hold.
-    fn take_start<D: Out<Entry>>(&mut self, hop: u32, status: Status, head: Head, delivery: &mut D) -> Result<(), Memory>
+    fn take_start<D: Out<Entry>>(
+        &mut self,
+        hop: u32,
+        status: Status,
+        head: Head,
+        delivery: &mut D,
+    ) -> Result<(), Memory>
         requires rooms { HasRoom 2 2 self.old.rooms }
         requires counts { Counted self.old.state }
         requires in_range { IsHop hop }
@@ -71,7 +82,12 @@ impl Work {
 
     /// A failed opening is a start and a stop.
     #[tactic(auto, using(crate::proofs::Gains::gains_then))]
-    fn take_failed<D: Out<Entry>>(&mut self, hop: u32, status: Status, delivery: &mut D) -> Result<(), Memory>
+    fn take_failed<D: Out<Entry>>(
+        &mut self,
+        hop: u32,
+        status: Status,
+        delivery: &mut D,
+    ) -> Result<(), Memory>
         requires rooms { HasRoom 2 2 self.old.rooms }
         requires counts { Counted self.old.state }
         requires broken { self.old.state.broken ≡ false }
@@ -93,7 +109,12 @@ impl Work {
     }
 
     /// The page is asked about a redirect.
-    fn take_redirect1<D: Out<Entry>>(&mut self, hop: u32, code: u16, delivery: &mut D) -> Result<(), Memory>
+    fn take_redirect1<D: Out<Entry>>(
+        &mut self,
+        hop: u32,
+        code: u16,
+        delivery: &mut D,
+    ) -> Result<(), Memory>
         requires rooms { HasRoom 2 2 self.old.rooms }
         requires counts { Counted self.old.state }
         requires in_range { IsHop hop }
@@ -138,7 +159,11 @@ impl Work {
     }
 
     /// Takes the next message of the main lane.
-    pub(crate) fn main<D: Out<Entry>>(&mut self, m: MainMsg, delivery: &mut D) -> Result<Moved, Memory>
+    pub(crate) fn main<D: Out<Entry>>(
+        &mut self,
+        m: MainMsg,
+        delivery: &mut D,
+    ) -> Result<Moved, Memory>
         requires rooms { HasRoom 2 2 self.old.rooms }
         requires counts { Counted self.old.state }
         requires in_range { IsMainInRange m }

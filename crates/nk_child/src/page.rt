@@ -1,6 +1,6 @@
 // The calls of the page. What a call sends is staged first, which may want memory.
 
-ghost use Rattle.std.specs.Prelude.{◌≡◌, ◌++◌, ◌∷◌, ◌<◌, ◌≤◌, ◌+◌, ◌^◌, [], ℕ, Option, IfOk, IfErr, IfSome, slice_get, OnOk, OnErr, None, Some, IsTrue, length, is_some, true, false, not, ◌||◌};
+ghost use Rattle.std.specs.Prelude.{◌≡◌, ◌++◌, ◌∷◌, ◌<◌, ◌≤◌, ◌+◌, ◌^◌, [], ℕ, Option, IfOk, IfErr, IfSome, slice_get, OnOk, OnErr, None, Some, IsTrue, length, is_some, true, false, not, nat_lt, ◌||◌};
 ghost use Rattle.nk_base.specs.declared.status.Status.{Status};
 ghost use Rattle.nk_base.specs.declared.status.Target.{Target};
 ghost use Rattle.nk_base.specs.declared.status.Target.TheVariants as target;
@@ -8,8 +8,9 @@ ghost use Rattle.nk_base.specs.Queue.{IsTarget, posted_to, retargeted, cleared, 
 ghost use Rattle.nk_base.specs.Status.{is_failure};
 ghost use Rattle.nk_plan.specs.Accepted.{IsGoodAct};
 ghost use Rattle.nk_plan.specs.declared.plan.Act.TheVariants as act;
-ghost use Rattle.nk_plan.specs.Child.{perform_call, refusal, is_empty, offer_event, child_step};
+ghost use Rattle.nk_plan.specs.Child.{perform_call, refusal, is_empty, offer_event, is_due, child_step};
 ghost use Rattle.nk_plan.specs.Enabled.{child_enabled};
+ghost use Rattle.nk_plan.specs.Ending.{is_left_suspended};
 ghost use Rattle.nk_plan.specs.declared.step.ChildStep.TheVariants as step;
 ghost use Rattle.nk_base.specs.declared.message.UpMsg.TheVariants as up_message;
 ghost use Rattle.nk_child.specs.Moved.{moved_if};
@@ -153,7 +154,11 @@ impl Work {
     }
 
     /// Stages what a cancel sends.
-    pub(crate) fn stage_cancel<U: Out<UpMsg>>(&self, status: Status, up: &mut U) -> Result<(), Memory>
+    pub(crate) fn stage_cancel<U: Out<UpMsg>>(
+        &self,
+        status: Status,
+        up: &mut U,
+    ) -> Result<(), Memory>
         requires up { 0 < U.room up.old }
         requires failure { is_failure status ≡ true }
         ensures staged { OnOk result (U.staged up.new ≡ U.staged up.old ++ cancel_sends status self.now.state) }
@@ -201,7 +206,12 @@ impl Work {
 
     /// The child is broken, and the first event of that is offered.
     #[tactic(auto, using(crate::proofs::Gains::gains_shown))]
-    fn break_with<D: Out<Entry>>(&mut self, status: Status, e: Queued, delivery: &mut D) -> Result<(), Memory>
+    fn break_with<D: Out<Entry>>(
+        &mut self,
+        status: Status,
+        e: Queued,
+        delivery: &mut D,
+    ) -> Result<(), Memory>
         requires rooms { HasRoom 2 2 self.old.rooms }
         requires counts { Counted self.old.state }
         requires quiet { (kept : Option Status) → event_sends kept e ≡ [] }
@@ -209,12 +219,12 @@ impl Work {
         requires same { event_shown self.old.plan self.old.state.hop (merged self.old.state.kept status) e
             ≡ event_shown self.old.plan self.old.state.hop self.old.state.kept e }
         ensures ok { OnOk result (Leaves 2 1 self.old self.new (offer_event self.old.plan target.Main e
-          (record self.old.state {
-            broken = true;
-            kept = merged self.old.state.kept status;
-            queue = cleared self.old.state.queue;
-            journal = self.old.state.journal ++ entry.Break status ∷ [];
-          }))) }
+            (record self.old.state {
+              broken = true;
+              kept = merged self.old.state.kept status;
+              queue = cleared self.old.state.queue;
+              journal = self.old.state.journal ++ entry.Break status ∷ [];
+            }))) }
         ensures trace { OnOk result (Gains self.old.state.trace self.new.state.trace (D.staged delivery.old) (D.staged delivery.new)) }
         ensures sent { self.new.state.sent ≡ self.old.state.sent }
         ensures busy { OnOk result (is_busy self.new.state.queue ≡ true) }
@@ -232,12 +242,12 @@ impl Work {
     fn drop_waiting(&mut self, status: Status)
         requires rooms { HasRoom 1 0 self.old.rooms }
         ensures { Leaves 1 0 self.old self.new
-          (record self.old.state {
-            broken = true;
-            kept = merged self.old.state.kept status;
-            queue = cleared self.old.state.queue;
-            journal = self.old.state.journal ++ entry.Break status ∷ [];
-          }) }
+            (record self.old.state {
+              broken = true;
+              kept = merged self.old.state.kept status;
+              queue = cleared self.old.state.queue;
+              journal = self.old.state.journal ++ entry.Break status ∷ [];
+            }) }
     {
         self.merge(status);
         self.queue.clear();
@@ -335,6 +345,15 @@ impl Work {
         Some(control.act)
     }
 
+    /// Whether the page has left the channel suspended: it is opened, nothing runs, and no call is due.
+    #[tactic(auto, using(crate::proofs::Acts::due_told))]
+    pub(crate) fn is_left_suspended(&self) -> bool
+        ensures { result ≡ is_left_suspended self.now.state.opened (nat_lt 0 self.now.state.suspends) (is_some self.now.state.running)
+            (is_due self.now.state (slice_get self.now.plan.controls self.now.state.next)) }
+    {
+        self.opened && self.queue.count() > 0 && self.running.is_none() && self.due().is_none()
+    }
+
     /// The page opens the channel.
     #[tactic(auto, using(crate::proofs::Gains::gains))]
     fn open<U: Out<UpMsg>>(&mut self, up: &mut U) -> Result<(), Memory>
@@ -360,7 +379,11 @@ impl Work {
 
     /// The page opens the channel, or makes its next call.
     #[tactic(auto, using(crate::proofs::Acts::none_due, crate::proofs::Acts::one_due, crate::proofs::Gains::gains_none))]
-    pub(crate) fn act<U: Out<UpMsg>, D: Out<Entry>>(&mut self, up: &mut U, delivery: &mut D) -> Result<Moved, Memory>
+    pub(crate) fn act<U: Out<UpMsg>, D: Out<Entry>>(
+        &mut self,
+        up: &mut U,
+        delivery: &mut D,
+    ) -> Result<Moved, Memory>
         requires rooms { HasRoom 2 2 self.old.rooms }
         requires counts { Counted self.old.state }
         requires up { 0 < U.room up.old }

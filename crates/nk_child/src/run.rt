@@ -147,8 +147,8 @@ impl Work {
         requires room { HasRoom 1 0 self.old.rooms }
         requires begun { self.old.state.data_begun < 2 ^ 62 }
         ensures { Leaves 1 0 self.old self.new (record
-          (run_bytes self.old.state t offset piece (merged self.old.state.kept status) status)
-          { trace = self.old.state.trace }) }
+            (run_bytes self.old.state t offset piece (merged self.old.state.kept status) status)
+            { trace = self.old.state.trace }) }
     {
         self.merge(status);
         if let Some(status) = self.first.kept() {

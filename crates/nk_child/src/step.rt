@@ -14,7 +14,12 @@ use nk_plan::ChildStep;
 impl Work {
     /// Makes the row of this step. What it sends and shows is staged; on `Memory` some of that may be staged too.
     #[tactic(auto, using(crate::proofs::Gains::gains_none))]
-    fn row<U: Out<UpMsg>, D: Out<Entry>>(&mut self, step: ChildStep, up: &mut U, delivery: &mut D) -> Result<Moved, Memory>
+    fn row<U: Out<UpMsg>, D: Out<Entry>>(
+        &mut self,
+        step: ChildStep,
+        up: &mut U,
+        delivery: &mut D,
+    ) -> Result<Moved, Memory>
         requires rooms { HasRoom 66 2 self.old.rooms }
         requires counts { Counted self.old.state }
         requires forced { self.old.state.queue.forced ≤ 1 }
@@ -45,7 +50,12 @@ impl Work {
 
     /// Makes the row of this step, and sends what it sends and shows. On `Memory` nothing has changed.
     #[tactic(auto, using(crate::proofs::Gains::whole))]
-    pub(crate) fn step<U: Out<UpMsg>, D: Out<Entry>>(&mut self, step: ChildStep, up: &mut U, delivery: &mut D) -> Result<Moved, Memory>
+    pub(crate) fn step<U: Out<UpMsg>, D: Out<Entry>>(
+        &mut self,
+        step: ChildStep,
+        up: &mut U,
+        delivery: &mut D,
+    ) -> Result<Moved, Memory>
         requires counts { Counted self.old.state }
         requires forced { self.old.state.queue.forced ≤ 1 }
         requires in_range { IsStepInRange step }

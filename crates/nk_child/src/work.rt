@@ -7,6 +7,7 @@ ghost use Rattle.nk_base.specs.Status.{is_failure};
 ghost use Rattle.nk_plan.specs.Accepted.{Accepted};
 ghost use Rattle.nk_plan.specs.Failure.{merged, kept_status};
 ghost use Rattle.nk_plan.specs.Child.{new_child, with_entry, runs_on};
+ghost use Rattle.nk_child.specs.Running.{running_target};
 ghost use Rattle.nk_child.specs.Shown.{with_shown};
 ghost use Rattle.nk_child.specs.Views.{HasRoom, Leaves};
 
@@ -145,14 +146,6 @@ impl Work {
         self.hold.reserve(items)
     }
 
-    /// The number of entries, each of which takes memory.
-    pub(crate) fn entries(&self) -> usize
-        ensures number { result ≡ length self.now.state.journal }
-        ensures few { result < 2 ^ 62 }
-    {
-        self.journal.as_slice().len()
-    }
-
     /// Enters in the journal.
     pub(crate) fn note(&mut self, e: ChildEntry)
         requires { 0 < self.old.rooms.journal }
@@ -198,6 +191,16 @@ impl Work {
         self.first.kept().is_some()
     }
 
+    /// The target on which a callback runs.
+    pub(crate) fn running(&self) -> Option<Target>
+        ensures { result ≡ running_target self.now.state.running }
+    {
+        match &self.running {
+            None => None,
+            Some((own, _)) => Some(*own),
+        }
+    }
+
     /// Whether a callback runs on this target.
     #[tactic(auto, using(crate::proofs::Ranges::same_is_target))]
     pub(crate) fn runs_on(&self, t: Target) -> bool
@@ -210,13 +213,28 @@ impl Work {
         }
     }
 
-    /// Takes the lists that grow.
+    /// The allocator of its lists.
+    pub(crate) fn alloc(&self) -> Global {
+        self.alloc
+    }
+
+    /// What was sent on the up lane.
+    pub(crate) fn sent(&self) -> &[UpMsg]
+        ensures { result.now ≡ self.now.state.sent }
+    {
+        self.sent.as_slice()
+    }
+
+    /// Takes the lists that grow. A list in memory is far from as long as numbers go.
     pub(crate) fn put_lists(&mut self, journal: ChildJournal, trace: Trace)
         ensures plan { self.new.plan ≡ self.old.plan }
+        ensures few { length self.new.state.journal < 2 ^ 62 }
+        ensures accepted { Accepted self.new.plan }
         ensures state { self.new.state ≡ record self.old.state { journal = journal; trace = trace } }
     {
         self.journal = journal.into_grow();
         self.trace = trace.into_grow();
+        prove!(self.journal.as_slice().len() < 1 << 62);
     }
 
     /// Gives the journal away.

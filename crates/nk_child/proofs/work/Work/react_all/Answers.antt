@@ -1,5 +1,5 @@
 -- Each turn performs one reaction more.
-use Rattle.std.proofs.Common.{ℕ, ◌≡◌, ◌∙◌, ◌+◌, ◌-◌, ◌≤◌, ap, subst, drop, length, slice_get, Some, arith}
+use Rattle.std.proofs.Common.{◌≡◌, ◌∙◌, ◌+◌, ◌≤◌, ap, subst, drop, slice_get, Some, arith}
 use Rattle.nk_plan.specs.declared.plan.ChannelPlan.{ChannelPlan}
 use Rattle.nk_plan.specs.Child.{react}
 use Rattle.nk_child.specs.Views.{WorkView}

@@ -1,5 +1,5 @@
 -- The reactions that are left are still to be performed, and there is room for them.
-use Rattle.std.proofs.Common.{ℕ, ◌≡◌, ◌≤◌, ◌<◌, ◌+◌, ◌-◌, ◌^◌, length, drop}
+use Rattle.std.proofs.Common.{◌≡◌, ◌≤◌, ◌+◌, ◌-◌, length, drop}
 use Rattle.nk_plan.specs.Child.{react_all}
 use Rattle.nk_child.proofs.work.Work.react_all.Given as goal
 

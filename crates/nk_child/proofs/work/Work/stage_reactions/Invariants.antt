@@ -1,5 +1,5 @@
 -- What the reactions that are left send is still to be staged, and there is room for it.
-use Rattle.std.proofs.Common.{◌≡◌, ◌++◌, ◌≤◌, ◌+◌, ◌<◌, length, drop, nat_lt, is_some}
+use Rattle.std.proofs.Common.{◌≡◌, ◌++◌, ◌≤◌, ◌+◌, length, drop, nat_lt, is_some}
 use Rattle.nk_child.specs.Reactions.{reactions_send, sends_left}
 use Rattle.nk_child.proofs.work.Work.stage_reactions.Given as goal
 
