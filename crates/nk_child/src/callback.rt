@@ -1,6 +1,6 @@
 // A callback of the listener returns: its reactions are performed, and what was read is sent up.
 
-ghost use Rattle.std.specs.Prelude.{◌≡◌, ◌++◌, ◌∷◌, ◌<◌, ◌≤◌, ◌+◌, ◌-◌, ◌^◌, [], ℕ, suc, IfOk, IfSome, OnOk, OnErr, length, true, None, Some, is_some};
+ghost use Rattle.std.specs.Prelude.{◌≡◌, ◌<◌, ◌++◌, ◌∷◌, ◌≤◌, ◌+◌, ◌-◌, ◌^◌, [], suc, IfOk, IfSome, OnOk, OnErr, length, true, None};
 ghost use Rattle.nk_base.specs.declared.message.UpMsg.TheVariants as up_message;
 ghost use Rattle.nk_base.specs.Queue.{IsTarget, posted_to, unforced};
 ghost use Rattle.nk_base.specs.Ranges.{IsReadCount};
@@ -12,7 +12,7 @@ ghost use Rattle.nk_plan.specs.declared.step.ChildStep.TheVariants as step;
 ghost use Rattle.nk_plan.specs.declared.event.ChildEvent.TheVariants as event;
 ghost use Rattle.nk_plan.specs.declared.journal.ChildEntry.TheVariants as entry;
 ghost use Rattle.nk_child.specs.Moved.{moved_if};
-ghost use Rattle.nk_child.specs.Reactions.{start_sends, cancel_sends, failure_of};
+ghost use Rattle.nk_child.specs.Reactions.{start_sends, failure_of};
 ghost use Rattle.nk_plan.specs.declared.plan.Act.TheVariants as act;
 ghost use Rattle.nk_base.specs.declared.status.Target.{Target};
 ghost use Rattle.nk_base.specs.declared.status.Target.TheVariants as target;
@@ -198,9 +198,9 @@ impl Work {
         ensures ok { Leaves 1 1 self.old self.new (prepend_cancel status self.old.state) }
         ensures sent { self.new.state.sent ≡ self.old.state.sent }
     {
+        let cancel = Queued::new(ChildEvent::Cancel { status });
         self.queue.suspend();
-        self.queue
-            .prepend(Queued::new(ChildEvent::Cancel { status }));
+        self.queue.prepend(cancel);
         let _ = self.queue.resume();
         self.note(ChildEntry::Prepend(status));
     }

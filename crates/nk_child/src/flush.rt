@@ -1,8 +1,8 @@
 // What a target does when its turn comes: it goes on with its flush, or does a task that was posted to it.
 
-ghost use Rattle.std.specs.Prelude.{◌≡◌, ◌++◌, ◌∷◌, ◌<◌, ◌≤◌, ◌+◌, ◌^◌, [], ℕ, IfOk, OnOk, OnErr, length, true, nat_lt};
+ghost use Rattle.std.specs.Prelude.{◌≡◌, ◌<◌, ◌++◌, ◌∷◌, ◌≤◌, ◌+◌, [], IfOk, OnOk, OnErr, length, true};
 ghost use Rattle.std.specs.Bool.{OnTrue};
-ghost use Rattle.nk_base.specs.Queue.{IsTarget, is_target, taken, posted_to, completed};
+ghost use Rattle.nk_base.specs.Queue.{IsTarget, is_target, posted_to, completed};
 ghost use Rattle.nk_queue.specs.Answers.{event_of, taken_by};
 ghost use Rattle.nk_plan.specs.Event.{class_of};
 ghost use Rattle.nk_plan.specs.Child.{flush_with, child_step};
@@ -10,7 +10,7 @@ ghost use Rattle.nk_plan.specs.Enabled.{child_enabled};
 ghost use Rattle.nk_plan.specs.declared.step.ChildStep.TheVariants as step;
 ghost use Rattle.nk_plan.specs.declared.journal.ChildEntry.TheVariants as entry;
 ghost use Rattle.nk_child.specs.Moved.{moved_if};
-ghost use Rattle.nk_child.specs.Shown.{with_shown, event_shown, event_sends, next_shown, next_sends};
+ghost use Rattle.nk_child.specs.Shown.{with_shown, event_sends, next_shown, next_sends};
 ghost use Rattle.nk_child.specs.Views.{HasRoom, Leaves, Counted, Gains};
 
 use crate::queued::Queued;
@@ -36,26 +36,6 @@ impl Work {
             }
             _ => Ok(()),
         }
-    }
-
-    /// Gets ready what the listener is shown of an event that runs next.
-    fn stage_shown<D: Out<Entry>>(
-        &self,
-        e: &Queued,
-        delivery: &mut D,
-    ) -> Result<Option<Entry>, Memory>
-        requires room { 0 < D.room delivery.old }
-        ensures shown { IfOk result (λ r. r ≡ event_shown self.now.plan self.now.state.hop self.now.state.kept e.now) }
-        ensures staged { IfOk result (λ r. D.staged delivery.new ≡ with_shown (D.staged delivery.old) r) }
-        ensures held { D.held delivery.new ≡ D.held delivery.old }
-        ensures room { D.room delivery.new + length (D.staged delivery.new) ≡ D.room delivery.old + length (D.staged delivery.old) }
-    {
-        let Some(entry) = self.shown(e.get())? else {
-            return Ok(None);
-        };
-        let copy = entry.share()?;
-        delivery.stage(copy)?;
-        Ok(Some(entry))
     }
 
     /// Gets the event ready that a flush takes next, if it takes one.

@@ -1,8 +1,7 @@
 // The messages of the two lanes. Those of the background lane wait in the hold until the start of their hop is in the queue.
 
-ghost use Rattle.std.specs.Prelude.{◌≡◌, ◌++◌, ◌∷◌, ◌<◌, ◌≤◌, ◌+◌, ◌^◌, [], ℕ, Option, IfOk, IfSome, OnOk, OnErr, None, Some, length, true, false};
+ghost use Rattle.std.specs.Prelude.{◌≡◌, ◌<◌, ◌≤◌, ◌+◌, ◌^◌, [], IfOk, OnOk, OnErr, length, true, false};
 ghost use Rattle.std.specs.Option.{option_to_list};
-ghost use Rattle.nk_base.specs.declared.status.Status.{Status};
 ghost use Rattle.nk_base.specs.declared.status.Target.{Target};
 ghost use Rattle.nk_base.specs.declared.status.Target.TheVariants as target;
 ghost use Rattle.nk_base.specs.Queue.{posted_to, is_busy};
@@ -10,7 +9,6 @@ ghost use Rattle.nk_base.specs.Ranges.{IsMainInRange, IsHop};
 ghost use Rattle.nk_plan.specs.Child.{offer_event, offer_all, with_entry, back_events_of, back_events, child_step};
 ghost use Rattle.nk_plan.specs.Enabled.{child_enabled};
 ghost use Rattle.nk_plan.specs.declared.step.ChildStep.TheVariants as step;
-ghost use Rattle.nk_plan.specs.declared.journal.ChildEntry.TheVariants as entry;
 ghost use Rattle.nk_base.specs.declared.message.MainMsg.TheVariants as main;
 ghost use Rattle.nk_child.specs.Moved.{moved_if};
 ghost use Rattle.nk_child.specs.Shown.{event_sends};

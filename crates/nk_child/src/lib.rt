@@ -4,6 +4,8 @@
 // the table is this project's own.
 #![tactic(auto)]
 
+mod act;
+mod broken;
 mod callback;
 mod child;
 mod flush;
@@ -17,3 +19,6 @@ mod verdict;
 mod work;
 
 pub use child::Child;
+
+#[cfg(test)]
+mod tests;

@@ -1,9 +1,8 @@
 // Events are offered to the queue, and run: what the listener is shown of them is got ready first, since it may want memory.
 
-ghost use Rattle.std.specs.Prelude.{◌≡◌, ◌++◌, ◌∷◌, ◌<◌, ◌≤◌, ◌+◌, ◌^◌, [], ℕ, IfOk, OnErr, IsTrue, length, is_some, true, Some};
+ghost use Rattle.std.specs.Prelude.{◌≡◌, ◌<◌, ◌++◌, ◌∷◌, ◌≤◌, ◌+◌, ◌^◌, [], IfOk, length, true, Some};
 ghost use Rattle.nk_base.specs.declared.status.Target.{Target};
-ghost use Rattle.nk_base.specs.Queue.{IsTarget, HasTarget, is_busy, is_posted, posted_to, target_in, forced_once};
-ghost use Rattle.nk_plan.specs.Event.{class_of};
+ghost use Rattle.nk_base.specs.Queue.{IsTarget, is_busy, posted_to, forced_once};
 ghost use Rattle.nk_plan.specs.Failure.{merged, kept_status};
 ghost use Rattle.nk_plan.specs.Plan.{stop_trailers};
 ghost use Rattle.nk_plan.specs.Child.{run_event, run_bytes, cancel_messages, offer_event};
@@ -118,6 +117,21 @@ impl Work {
         }
     }
 
+    /// The callback of this event runs, and until it returns events are queued by force.
+    fn occupy(&mut self, t: Target, e: ChildEvent)
+        requires here { IsTarget t }
+        requires forced { self.old.state.queue.forced < 2 ^ 62 }
+        ensures { self.new ≡ record self.old {
+          state = record self.old.state {
+            queue = forced_once self.old.state.queue;
+            running = Some (t, e);
+          };
+        } }
+    {
+        self.queue.start_forced();
+        self.running = Some((t, e));
+    }
+
     /// The start callback begins.
     fn run_start(&mut self, t: Target, code: u16, status: Status)
         requires here { IsTarget t }
@@ -131,8 +145,7 @@ impl Work {
         }) }
     {
         self.merge(status);
-        self.queue.start_forced();
-        self.running = Some((t, ChildEvent::Start { code, status }));
+        self.occupy(t, ChildEvent::Start { code, status });
         let status = self.status();
         self.note(ChildEntry::RunStart {
             target: t,
@@ -191,8 +204,7 @@ impl Work {
     {
         self.merge(status);
         self.stopped = true;
-        self.queue.start_forced();
-        self.running = Some((t, ChildEvent::Stop { status }));
+        self.occupy(t, ChildEvent::Stop { status });
         let status = self.status();
         self.note(ChildEntry::RunStop { target: t, status });
     }
@@ -225,7 +237,27 @@ impl Work {
         }
     }
 
-    /// Gets ready what the listener is shown of an event that is offered from here: an equal entry is staged.
+    /// Gets ready what the listener is shown of an event that runs next: an equal entry is staged.
+    pub(crate) fn stage_shown<D: Out<Entry>>(
+        &self,
+        e: &Queued,
+        delivery: &mut D,
+    ) -> Result<Option<Entry>, Memory>
+        requires room { 0 < D.room delivery.old }
+        ensures shown { IfOk result (λ r. r ≡ event_shown self.now.plan self.now.state.hop self.now.state.kept e.now) }
+        ensures staged { IfOk result (λ r. D.staged delivery.new ≡ with_shown (D.staged delivery.old) r) }
+        ensures held { D.held delivery.new ≡ D.held delivery.old }
+        ensures room { D.room delivery.new + length (D.staged delivery.new) ≡ D.room delivery.old + length (D.staged delivery.old) }
+    {
+        let Some(entry) = self.shown(e.get())? else {
+            return Ok(None);
+        };
+        let copy = entry.share()?;
+        delivery.stage(copy)?;
+        Ok(Some(entry))
+    }
+
+    /// Gets ready what the listener is shown of an event that is offered from here, if it runs at once.
     pub(crate) fn ready<D: Out<Entry>>(
         &self,
         here: Target,
@@ -241,12 +273,7 @@ impl Work {
         if !self.queue.runs_now(e, here) {
             return Ok(None);
         }
-        let Some(entry) = self.shown(e.get())? else {
-            return Ok(None);
-        };
-        let copy = entry.share()?;
-        delivery.stage(copy)?;
-        Ok(Some(entry))
+        self.stage_shown(e, delivery)
     }
 
     /// Offers an event from here, and runs it where the queue says so.

@@ -1,6 +1,6 @@
 // The child's table: each step is one of its rows, made whole or not at all.
 
-ghost use Rattle.std.specs.Prelude.{◌≡◌, ◌++◌, ◌<◌, ◌≤◌, ◌+◌, [], IfOk, OnOk, OnErr, length, drop};
+ghost use Rattle.std.specs.Prelude.{◌≡◌, ◌++◌, ◌≤◌, ◌+◌, [], IfOk, OnOk, OnErr, length, drop};
 ghost use Rattle.nk_plan.specs.Child.{child_step};
 ghost use Rattle.nk_plan.specs.Enabled.{child_enabled};
 ghost use Rattle.nk_child.specs.Moved.{moved_if};

@@ -1,6 +1,6 @@
 // The question on a redirect is answered.
 
-ghost use Rattle.std.specs.Prelude.{◌≡◌, ◌++◌, ◌∷◌, ◌<◌, ◌+◌, [], IfOk, OnOk, OnErr, length, true};
+ghost use Rattle.std.specs.Prelude.{◌≡◌, ◌<◌, ◌+◌, IfOk, OnOk, OnErr, length, true};
 ghost use Rattle.nk_base.specs.Status.{is_legal_status};
 ghost use Rattle.nk_redirect.specs.Verdict.{veto_of};
 ghost use Rattle.nk_plan.specs.Plan.{hop_at};

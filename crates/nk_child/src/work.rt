@@ -1,6 +1,6 @@
 // The parts of a child, and what each row of its table needs of them.
 
-ghost use Rattle.std.specs.Prelude.{◌≡◌, ◌++◌, ◌∷◌, ◌<◌, ◌≤◌, ◌-◌, ◌^◌, [], length, OnOk, is_some};
+ghost use Rattle.std.specs.Prelude.{◌≡◌, ◌<◌, ◌-◌, ◌^◌, [], length, OnOk, is_some};
 ghost use Rattle.std.specs.Bool.{OnTrue};
 ghost use Rattle.nk_base.specs.Queue.{IsTarget};
 ghost use Rattle.nk_base.specs.Status.{is_failure};
