@@ -1,0 +1,33 @@
+-- Each turn changes one segment, and goes on to the next.
+use Rattle.std.proofs.Common.{◌≡◌, ◌∙◌, arith}
+use Rattle.std.proofs.lemmas.List.{length-drop}
+use Rattle.nk_chain.specs.Chain.{with_item}
+use Rattle.nk_segments.specs.Segments.{raised, changed_at, since}
+use Rattle.nk_segments.proofs.SegmentLemmas.{with_item-changed}
+use Rattle.nk_segments.proofs.Onward.{Steps, steps, below_here, below_rest, since_some}
+use Rattle.nk_segments.proofs.walk.raise_from.Goals as goal
+
+pub raise-requires : goal.raise-requires
+raise-requires c =
+    below_here c.loop-at.chain.items c.in-Some.here c.get_mut.result.now c.get_mut.ensures.value (rw c.in-Some.is at c.loop-at.invariant.below)
+
+step : (c : goal.After-chain-1) → Steps raised c.loop-at.chain.items c.in-Some.here
+step c = steps raised c.loop-at.chain.items c.in-Some.here c.loop-at.invariant.distinct
+
+changed : (c : goal.After-chain-1) → with_item c.loop-at.chain.items c.in-Some.here c.raise.new.self ≡ changed_at raised c.loop-at.chain.items c.in-Some.here
+changed c =
+    rw c.raise.ensures (with_item-changed raised c.loop-at.chain.items c.in-Some.here c.get_mut.result.now c.get_mut.ensures.value)
+
+pub loop-at-smaller : goal.loop-at-smaller
+loop-at-smaller c =
+    rw (changed c, c.next-after.ensures, (step c).since, c.in-Some.is)
+    (omega (arith, length-drop 1 (since c.loop-at.chain.items c.in-Some.here), since_some c.loop-at.chain.items c.in-Some.here (rw c.in-Some.is at c.loop-at.invariant.live)))
+
+pub loop-at-preserved : goal.loop-at-preserved
+loop-at-preserved c =
+    rw (changed c, c.next-after.ensures) (record {
+      whole = (step c).onward ∙ rw c.in-Some.is at c.loop-at.invariant.whole;
+      below = rw (step c).since (below_rest _ (rw c.in-Some.is at c.loop-at.invariant.below));
+      live = (step c).live;
+      distinct = (step c).distinct;
+    })
