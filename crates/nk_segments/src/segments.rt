@@ -52,7 +52,6 @@ impl Segments {
           segments = self.old.segments ++ (p, record { bytes = replicate self.old.size 0; readers = readers }) ∷ [];
         }) }
         ensures err { OnErr result (self.new ≡ self.old) }
-        ensures told { AreSegments self.old.size self.old.segments }
     {
         let segment = Segment::new(self.alloc, self.size, readers)?;
         match self.chain.reserve(1) {
@@ -65,10 +64,9 @@ impl Segments {
     pub fn put(&mut self, place: Place, at: u32, bytes: &[u8])
         requires live { IsLive self.old.segments place }
         requires fits { at + length bytes.now ≤ self.old.size }
-        ensures put { self.new ≡ record self.old {
+        ensures { self.new ≡ record self.old {
           segments = changed_at (with_bytes at bytes.now) self.old.segments place;
         } }
-        ensures told { AreSegments self.old.size self.old.segments }
     {
         self.chain.get_mut(place).put(at, bytes);
     }
@@ -77,6 +75,7 @@ impl Segments {
     pub fn bytes(&self, place: Place) -> &[u8]
         requires { IsLive self.now.segments place }
         ensures bytes { IfSome (item_at self.now.segments place) (λ s. result.now ≡ s.bytes) }
+        ensures size { length result.now ≡ self.now.size }
         ensures told { AreSegments self.now.size self.now.segments }
     {
         self.chain.get(place).bytes()
@@ -94,8 +93,7 @@ impl Segments {
     pub fn hold(&mut self, place: Place)
         requires live { IsLive self.old.segments place }
         requires below { AreBelowEight (since self.old.segments place) }
-        ensures held { self.new ≡ record self.old { segments = changed_from raised self.old.segments place } }
-        ensures told { AreSegments self.old.size self.old.segments }
+        ensures { self.new ≡ record self.old { segments = changed_from raised self.old.segments place } }
     {
         raise_from(&mut self.chain, place);
     }
@@ -105,8 +103,7 @@ impl Segments {
     pub fn leave(&mut self, place: Place)
         requires live { IsLive self.old.segments place }
         requires held { IfSome (item_at self.old.segments place) (λ s. 0 < s.readers) }
-        ensures left { self.new ≡ record self.old { segments = needed (changed_at lowered self.old.segments place) } }
-        ensures told { AreSegments self.old.size self.old.segments }
+        ensures { self.new ≡ record self.old { segments = needed (changed_at lowered self.old.segments place) } }
     {
         self.chain.get_mut(place).lower();
         give_back(&mut self.chain);
@@ -117,10 +114,9 @@ impl Segments {
     pub fn release(&mut self, place: Place)
         requires live { IsLive self.old.segments place }
         requires held { AreHeld (since self.old.segments place) }
-        ensures released { self.new ≡ record self.old {
+        ensures { self.new ≡ record self.old {
           segments = needed (changed_from lowered self.old.segments place);
         } }
-        ensures told { AreSegments self.old.size self.old.segments }
     {
         lower_from(&mut self.chain, place);
         give_back(&mut self.chain);

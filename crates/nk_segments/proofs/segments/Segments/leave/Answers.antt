@@ -15,6 +15,6 @@ pub invariant_of-self : goal.invariant_of-self
 invariant_of-self c =
     rw (kept c) (segments-needed c.self.inside.size _ (segments-lowered_at c.self.inside.size c.self.inside.chain.items c.args.place c.self.invariant))
 
-pub returns-clause-left : goal.returns-clause-left
-returns-clause-left c =
+pub returns : goal.returns
+returns c =
     rw (← c.self.view_is) (ap (λ xs. record { size = c.self.inside.size; segments = xs }) (kept c))

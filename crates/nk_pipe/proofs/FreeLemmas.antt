@@ -1,0 +1,53 @@
+-- Lemmas on the segments at the front that are given back, and on new ones behind.
+use Rattle.std.proofs.Common.{◌≡◌, ◌≢◌, ℕ, zero, suc, ◌+◌, ◌-◌, ◌<◌, ◌≤◌, ◌⊎◌, ◌==◌, inl, inr, Bool, true, false, List, [], ◌∷◌, ◌++◌, length, take, drop, min, Option, Some, None, refl, sym, ap, subst, ◌∙◌, arith, if◌then◌else◌}
+use Rattle.std.specs.Prelude.{nat_lt, slice_get, slice_set}
+use Rattle.std.proofs.lemmas.List.{length-append, length-take, length-drop, append_assoc, drop-append-le, take-append-le}
+use Rattle.std.proofs.lemmas.Bool.Decides.{nat_tests}
+use Rattle.std.proofs.lemmas.Grind.{common_steps}
+use Rattle.nk_base.specs.declared.status.Status.{Status}
+use Rattle.nk_segments.specs.Places.{Place, item_at, place_after, IsLive}
+use Rattle.nk_segments.specs.Segments.{Segment, needed, AreSegments}
+use Rattle.nk_pipe.specs.declared.cursor.Cursor.{Cursor}
+use Rattle.nk_pipe.specs.declared.reader.Reader.{Reader as Tracked}
+use Rattle.nk_pipe.specs.Pipe.{Reader, is_open, has_open}
+use Rattle.nk_pipe.specs.Laid.{joined, cursor_over, AreCounted, ArePlaced, IsPlaced, standing, stands_before, all_seen, seen}
+
+drop_front : (xs ys : List ℕ) (n k : ℕ) → n ≡ length xs + k → drop n (xs ++ ys) ≡ drop k ys
+drop_front [] ys n k is = let same : n ≡ k = omega (arith, is) in rw same refl
+drop_front (x ∷ xs) ys n k is =
+    let same : n ≡ suc (length xs + k) = omega (arith, is) in rw same (drop_front xs ys (length xs + k) k refl)
+
+module _ (size : ℕ) where
+  -- where the first segment begins that is not given back
+  abbrev pub front : ℕ → List (Place × Segment) → ℕ
+  front from [] = from
+  front from (e ∷ rest) = if e.1.readers == 0 then front (from + size) rest else from
+
+  pub front_behind : (from : ℕ) (segments : List (Place × Segment)) → from ≤ front from segments
+  front_behind from [] = omega arith
+  front_behind from (e ∷ rest) = grind (arith, nat_tests, front_behind (from + size) rest)
+
+  pub front_ends : (from : ℕ) (segments : List (Place × Segment)) → AreSegments size segments → front from segments + length (joined (needed segments)) ≡ from + length (joined segments)
+  front_ends from [] are = refl
+  front_ends from (e ∷ rest) are =
+      grind (arith, nat_tests, front_ends (from + size) rest are.3, length-append e.1.bytes (joined rest), are.0)
+
+  pub front_counted : (from : ℕ) (segments : List (Place × Segment)) (before : ℕ → ℕ) → AreCounted size from segments before → AreCounted size (front from segments) (needed segments) before
+  front_counted from [] before counted = tt
+  front_counted from (e ∷ rest) before counted = grind (arith, nat_tests, counted, counted.0, counted.1, front_counted (from + size) rest before counted.1)
+
+  -- a reader that is counted stands in front of no segment that is given back
+  pub front_reached : (from : ℕ) (segments : List (Place × Segment)) (before : ℕ → ℕ) (position : ℕ) → ((x : ℕ) → position < x → 0 < before x) → from ≤ position → AreCounted size from segments before → front from segments ≤ position
+  front_reached from [] before position some within counted = within
+  front_reached from (e ∷ rest) before position some within counted =
+      grind (arith, nat_tests, within, counted.0, some (from + size), λ (h : from + size ≤ position). front_reached (from + size) rest before position some h counted.1)
+
+  pub front_cursor : (from : ℕ) (segments : List (Place × Segment)) (position : ℕ) → front from segments ≤ position → cursor_over size (front from segments) (needed segments) position ≡ cursor_over size from segments position
+  front_cursor from [] position within = refl
+  front_cursor from (e ∷ rest) position within =
+      grind (arith, nat_tests, within, front_behind (from + size) rest, front_cursor (from + size) rest position)
+
+  pub front_joined : (from : ℕ) (segments : List (Place × Segment)) → AreSegments size segments → joined (needed segments) ≡ drop (front from segments - from) (joined segments)
+  front_joined from [] are = grind (arith, common_steps)
+  front_joined from (e ∷ rest) are =
+      grind (arith, nat_tests, front_joined (from + size) rest are.3, front_behind (from + size) rest, are.0, drop_front e.1.bytes (joined rest) (front (from + size) rest - from) (front (from + size) rest - (from + size)))

@@ -1,0 +1,9 @@
+pub mod CursorLemmas
+pub mod CountLemmas
+pub mod FreeLemmas
+pub mod ReaderLemmas
+pub mod LaidLemmas
+pub mod PipeLemmas
+pub mod WriteLemmas
+pub mod WholeLemmas
+pub mod KeptLemmas

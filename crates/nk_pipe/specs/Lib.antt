@@ -1,0 +1,3 @@
+pub mod Pipe
+pub mod Kept
+pub mod Laid
