@@ -81,10 +81,10 @@ pub placed_open : (size from written : ℕ) (segments : List (Place × Segment))
 placed_open size from written segments readers i r is opens are =
     rw opens at (placed_get size from written segments readers i r is are)
 
-placed_by : (size from written : ℕ) (segments : List (Place × Segment)) (position : ℕ) (cursor : Cursor) (closed : Option Status) → closed ≡ None → IsPlaced size from written segments position cursor None → IsPlaced size from written segments position cursor closed
+pub placed_by : (size from written : ℕ) (segments : List (Place × Segment)) (position : ℕ) (cursor : Cursor) (closed : Option Status) → closed ≡ None → IsPlaced size from written segments position cursor None → IsPlaced size from written segments position cursor closed
 placed_by size from written segments position cursor closed opens is = rw opens is
 
-stands_open : (x : ℕ) (r : Tracked) → r.closed ≡ None → stands_before x (seen r) ≡ one_before r.position x
+pub stands_open : (x : ℕ) (r : Tracked) → r.closed ≡ None → stands_before x (seen r) ≡ one_before r.position x
 stands_open x r opens = rw opens refl
 
 opened : (r : Tracked) → r.closed ≡ None → is_open r.closed ≡ true
@@ -147,7 +147,7 @@ freed size from written ahead segments readers writer are laid opens =
       writes = laid.writes ∙ sym (front_cursor size from segments written reached);
     }
 
-loses_needed : (size from written ahead : ℕ) (segments segments' : List (Place × Segment)) (readers : List Tracked) (writer : Cursor) → AreSegments size segments' → joined segments' ≡ joined segments
+pub loses_needed : (size from written ahead : ℕ) (segments segments' : List (Place × Segment)) (readers : List Tracked) (writer : Cursor) → AreSegments size segments' → joined segments' ≡ joined segments
     → (has_open (all_seen readers) ≡ true → IsLaid size from segments' readers writer written ahead) → Loses size from segments (needed segments') readers writer written ahead
 loses_needed size from written ahead segments segments' readers writer are same laid =
     let there : from + (front size from segments' - from) ≡ front size from segments' = omega (arith, front_behind size from segments') in
@@ -158,7 +158,7 @@ loses_needed size from written ahead segments segments' readers writer are same 
       are = segments-needed size segments' are;
     }
 
-loses_none : (size from written ahead : ℕ) (segments : List (Place × Segment)) (readers : List Tracked) (writer : Cursor) → AreSegments size segments
+pub loses_none : (size from written ahead : ℕ) (segments : List (Place × Segment)) (readers : List Tracked) (writer : Cursor) → AreSegments size segments
     → (has_open (all_seen readers) ≡ true → IsLaid size from segments readers writer written ahead) → Loses size from segments segments readers writer written ahead
 loses_none size from written ahead segments readers writer are laid =
     let there : from + 0 ≡ from = omega arith in

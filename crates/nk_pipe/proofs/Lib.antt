@@ -7,3 +7,4 @@ pub mod PipeLemmas
 pub mod WriteLemmas
 pub mod WholeLemmas
 pub mod KeptLemmas
+pub mod CloseLemmas

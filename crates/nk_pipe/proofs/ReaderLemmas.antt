@@ -1,10 +1,12 @@
 -- Lemmas on lists of readers.
-use Rattle.std.proofs.Common.{◌≡◌, ℕ, zero, suc, ◌+◌, ◌<◌, List, [], ◌∷◌, ◌++◌, length, take, drop, get_or, Option, Some, None, refl, sym, ap, ◌∙◌, arith}
+use Rattle.std.proofs.Common.{◌≡◌, ℕ, zero, suc, ◌+◌, ◌-◌, ◌<◌, ◌≤◌, ◌==◌, false, List, [], ◌∷◌, ◌++◌, length, take, drop, get_or, Option, Some, None, refl, sym, ap, ◌∙◌, arith}
 use Rattle.std.specs.Prelude.{slice_get, slice_set}
 use Rattle.std.proofs.lemmas.Grind.{common_steps}
+use Rattle.std.proofs.lemmas.Bool.Decides.{nat_tests}
 use Rattle.nk_segments.specs.Places.{Place}
 use Rattle.nk_pipe.specs.declared.reader.Reader.{Reader as Tracked}
-use Rattle.nk_pipe.specs.Pipe.{Reader}
+use Rattle.nk_pipe.specs.Pipe.{Reader, numbered}
+use Rattle.nk_pipe.specs.Kept.{OpenAt}
 use Rattle.nk_pipe.specs.Laid.{seen, all_seen, reaching, all_reaching}
 
 -- the next reader reaches the new segment
@@ -43,3 +45,24 @@ pub read_get : (rs : List Tracked) (i : ℕ) (r : Tracked) → i < length rs →
 read_get [] i r below is = absurd (omega (arith, below))
 read_get (s ∷ rs) zero r below is = let same : r ≡ s = is in rw same refl
 read_get (s ∷ rs) (suc i) r below is = read_get rs i r (omega (arith, below)) is
+
+get_past : (rs : List Reader) (i : ℕ) → length rs ≤ i → slice_get rs i ≡ None
+get_past [] i past = refl
+get_past (r ∷ rs) zero past = absurd (omega (arith, past))
+get_past (r ∷ rs) (suc i) past = get_past rs i (omega (arith, past))
+
+-- a number from 1 on that is not above theirs is one of the readers'
+pub numbered_past : (rs : List Reader) (id : ℕ) → (0 < id → length rs < id) → numbered rs id ≡ None
+numbered_past rs zero past = refl
+numbered_past rs (suc i) past =
+    let none = get_past rs i (omega (arith, past (omega arith))) in
+    let same : suc i - 1 ≡ i = omega arith in grind (arith, nat_tests, none, same)
+
+pub numbered_at : (rs : List Reader) (id i : ℕ) → id ≡ i + 1 → numbered rs id ≡ slice_get rs i
+numbered_at rs id i is =
+    let some : id == 0 ≡ false = grind (arith, nat_tests, is) in
+    let same : id - 1 ≡ i = omega (arith, is) in rw (some, same) refl
+
+-- an open reader stands at its index
+pub open_get : (rs : List Tracked) (i : ℕ) (r : Tracked) → slice_get rs i ≡ Some r → r.closed ≡ None → OpenAt (all_seen rs) i
+open_get rs i r get opens = rw (seen_get rs i r get) (opens, refl)

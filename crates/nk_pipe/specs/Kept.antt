@@ -1,7 +1,7 @@
 -- What a pipe keeps of its model: of the bytes that were written, those that a reader may still need.
-use Rattle.std.specs.Prelude.{◌≡◌, ℕ, ◌+◌, ◌-◌, ◌≤◌, List, ◌++◌, length, drop, Option, None, IfSome, IsSome, slice_get}
+use Rattle.std.specs.Prelude.{◌≡◌, ℕ, ◌+◌, ◌-◌, ◌≤◌, List, ◌++◌, length, take, drop, Option, Some, None, IfSome, IsSome, slice_get, slice_set, if◌then◌else◌}
 use Rattle.nk_base.specs.declared.status.Status.{Status}
-use Rattle.nk_pipe.specs.Pipe.{Pipe, Reader}
+use Rattle.nk_pipe.specs.Pipe.{Pipe, Reader, moved, closed_with, first_close, has_open}
 
 -- how many bytes were written before those that are kept, the kept bytes, all else of the model, and how many bytes
 -- find room in the segments that are there
@@ -40,3 +40,21 @@ Forgets k k' =
 -- the reader at this index is open
 abbrev pub OpenAt : List Reader → ℕ → Type 0
 OpenAt readers i = IfSome (slice_get readers i) (λ r. r.closed ≡ None) × IsSome (slice_get readers i)
+
+-- a read of an open reader: the next of the kept bytes stand first in the buffer, and the reader has moved so far
+pub record ReadsOpen (k k' : Kept) (i : ℕ) (r : Reader) (old new : List ℕ) : Type 0 where
+  pub within : k.past ≤ r.position
+  pub most : r.position ≤ count k
+  pub handed : new ≡ take (length old) (drop (r.position - k.past) k.bytes) ++ drop (length (take (length old) (drop (r.position - k.past) k.bytes))) old
+  pub moved : Forgets (record k { readers = slice_set k.readers i (moved r (length (take (length old) (drop (r.position - k.past) k.bytes)))) }) k'
+
+-- a read, by the reader's closing status
+abbrev pub ReadsBy : Kept → Kept → ℕ → Reader → List ℕ → List ℕ → Option Status → Type 0
+ReadsBy k k' i r old new (Some s) = (k' ≡ k) × (new ≡ old)
+ReadsBy k k' i r old new None = ReadsOpen k k' i r old new
+
+-- what is kept once an open reader is closed
+abbrev pub without : Kept → ℕ → Reader → Status → Kept
+without k i r status =
+    let readers = slice_set k.readers i (closed_with r status) in
+    record k { readers = readers; closed = if has_open readers then k.closed else first_close k.closed status }

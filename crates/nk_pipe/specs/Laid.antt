@@ -1,8 +1,8 @@
 -- How a pipe lays its bytes out in segments, and where its cursors stand. No public clause cites this module.
 use Rattle.std.specs.Prelude.{◌≡◌, ℕ, ◌+◌, ◌-◌, ◌<◌, ◌≤◌, ◌&&◌, Bool, true, List, [], ◌∷◌, ◌++◌, length, take, map, nat_lt, Option, Some, None, if◌then◌else◌}
 use Rattle.nk_base.specs.declared.status.Status.{Status}
-use Rattle.nk_segments.specs.Places.{Place, place_after}
-use Rattle.nk_segments.specs.Segments.{Segment, Segments, lowered, changed_at, needed, AreSegments}
+use Rattle.nk_segments.specs.Places.{Place, place_after, IsLive}
+use Rattle.nk_segments.specs.Segments.{Segment, Segments, raised, lowered, changed_at, changed_from, since, needed, AreSegments, AreHeld, AreBelowEight}
 use Rattle.nk_pipe.specs.declared.cursor.Cursor.{Cursor}
 use Rattle.nk_pipe.specs.declared.reader.Reader.{Reader as Tracked}
 use Rattle.nk_pipe.specs.Pipe.{Reader, is_open, has_open}
@@ -92,6 +92,24 @@ cursor_in size segments place offset =
 abbrev pub left_at : ℕ → List (Place × Segment) → Place → ℕ → List (Place × Segment)
 left_at size segments place offset =
     if nat_lt offset size then segments else needed (changed_at lowered segments place)
+
+-- a reader that stands at a place is counted from there on; and the segments once it is closed
+abbrev pub HeldAt : List (Place × Segment) → Option Place → Type 0
+HeldAt segments None = Unit {0}
+HeldAt segments (Some place) = IsLive segments place × AreHeld (since segments place)
+
+abbrev pub released_at : List (Place × Segment) → Option Place → List (Place × Segment)
+released_at segments None = segments
+released_at segments (Some place) = needed (changed_from lowered segments place)
+
+-- one more reader may stand at a place; and the segments once it does
+abbrev pub MayHoldAt : List (Place × Segment) → Option Place → Type 0
+MayHoldAt segments None = Unit {0}
+MayHoldAt segments (Some place) = IsLive segments place × AreBelowEight (since segments place)
+
+abbrev pub held_at : List (Place × Segment) → Option Place → List (Place × Segment)
+held_at segments None = segments
+held_at segments (Some place) = changed_from raised segments place
 
 -- a cursor behind all segments stands in the one that is added
 abbrev pub or_place : Option Place → Place → Option Place

@@ -1,3 +1,4 @@
-pub mod Pipe
+pub mod Answers
 pub mod Kept
 pub mod Laid
+pub mod Pipe

@@ -17,7 +17,10 @@ mod cursor;
 mod pipe;
 mod reader;
 mod readers;
+mod single;
+mod status;
 mod steps;
+mod store;
 
 pub use answer::{CloneError, NoReader, Read, Write};
 pub use pipe::Pipe;

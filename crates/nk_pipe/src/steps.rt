@@ -4,10 +4,11 @@ ghost use Rattle.std.specs.Prelude.{◌≡◌, ◌+◌, ◌-◌, ◌<◌, ◌≤
 ghost use Rattle.nk_pipe.specs.Pipe.{has_open, room_for, numbered, moved};
 ghost use Rattle.nk_pipe.specs.Kept.{count, Forgets, OpenAt};
 
-use crate::cursor::{copy_out, put_in, Cursor};
+use crate::cursor::Cursor;
 use crate::pipe::Pipe;
 use crate::reader::Reader;
 use crate::readers::{all_reach, count_open, furthest};
+use crate::store::{copy_out, put_in};
 use nk_base::Memory;
 
 impl Pipe {
