@@ -1,11 +1,14 @@
 -- Lemmas on what is kept, as a reader takes bytes part by part.
-use Rattle.std.proofs.Common.{◌≡◌, ℕ, zero, suc, ◌+◌, ◌-◌, ◌<◌, ◌≤◌, Bool, true, List, [], ◌∷◌, ◌++◌, length, take, drop, Option, Some, None, refl, sym, ap, ◌∙◌, arith}
+use Rattle.std.proofs.Common.{◌≡◌, ℕ, zero, suc, ◌+◌, ◌-◌, ◌<◌, ◌≤◌, ◌==◌, Bool, true, false, List, [], ◌∷◌, ◌++◌, length, take, drop, min, Option, Some, None, refl, sym, ap, ◌∙◌, arith}
 use Rattle.std.specs.Prelude.{slice_get, slice_set, IfSome, IsSome}
-use Rattle.std.proofs.lemmas.List.{length-append, length-take, length-drop, take-take, drop-drop, set-set, take_at, append_assoc}
+use Rattle.std.proofs.lemmas.List.{length-append, length-take, length-drop, take-take, drop-drop, set-set, take_at, append_assoc, nil_from_length, take_min}
+use Rattle.std.proofs.lemmas.Bool.Decides.{nat_tests}
 use borrow.Rule.Slice.PartMut.{put_mid, post_of}
-use Rattle.nk_pipe.specs.Pipe.{Reader, moved}
+use Rattle.nk_pipe.specs.Pipe.{Reader, moved, open_answer, end_answer}
+use Rattle.nk_pipe.specs.declared.answer.Read.TheVariants as read
+use Rattle.nk_base.specs.declared.status.Status.{Status}
 use Rattle.nk_pipe.proofs.WriteLemmas.{take_front}
-use Rattle.nk_pipe.specs.Kept.{Kept, Forgets, OpenAt, count}
+use Rattle.nk_pipe.specs.Kept.{Kept, Forgets, OpenAt, ReadsOpen, ReadsBy, count}
 
 abbrev none_left : List ℕ
 none_left = []
@@ -104,3 +107,48 @@ next_part k k1 i done n buffer part rest r forgets is within early there few lef
 pub moved_there : (k k1 : Kept) (i n : ℕ) (r : Reader) → slice_get k.readers i ≡ Some r → Forgets (record k { readers = slice_set k.readers i (moved r n) }) k1 → slice_get k1.readers i ≡ Some (moved r n)
 moved_there k k1 i n r is forgets =
     ap (λ (v : Kept). slice_get v.readers i) forgets.2 ∙ set_get k.readers i r (moved r n) is
+
+rest_long : (k : Kept) (r : Reader) → k.past ≤ r.position → length (drop (r.position - k.past) k.bytes) ≡ count k - r.position
+rest_long k r within = omega (arith, within, length-drop (r.position - k.past) k.bytes)
+
+-- a read where nothing is left
+pub reads_none : (k : Kept) (i : ℕ) (r : Reader) (old : List ℕ) → slice_get k.readers i ≡ Some r → k.past ≤ r.position → r.position ≤ count k → count k - r.position ≡ 0 → ReadsOpen k k i r old old
+reads_none k i r old get within most left =
+    let none : drop (r.position - k.past) k.bytes ≡ none_left = nil_from_length (drop (r.position - k.past) k.bytes) (rest_long k r within ∙ left) in
+    record {
+      within = within;
+      most = most;
+      handed = rw (none, take_none (length old)) refl;
+      moved = rw (none, take_none (length old)) (forgets_none k i r get);
+    }
+
+-- a read of what is left, as much as the buffer takes
+pub reads_some : (k k1 : Kept) (i n : ℕ) (r : Reader) (old sub : List ℕ) → k.past ≤ r.position → r.position ≤ count k → n ≡ min (length old) (count k - r.position) → sub ≡ take n (drop (r.position - k.past) k.bytes)
+    → Forgets (record k { readers = slice_set k.readers i (moved r n) }) k1 → ReadsOpen k k1 i r old (sub ++ drop n old)
+reads_some k k1 i n r old sub within most is part forgets =
+    let long = rest_long k r within in
+    let all : min (length old) (length (drop (r.position - k.past) k.bytes)) ≡ n = omega (arith, long, is) in
+    let same : take (length old) (drop (r.position - k.past) k.bytes) ≡ take n (drop (r.position - k.past) k.bytes) = sym (take_min (length old) (drop (r.position - k.past) k.bytes)) ∙ ap (λ m. take m (drop (r.position - k.past) k.bytes)) all in
+    let size : length (take n (drop (r.position - k.past) k.bytes)) ≡ n = omega (arith, long, is, length-take n (drop (r.position - k.past) k.bytes)) in
+    record {
+      within = within;
+      most = most;
+      handed = rw (same, size, ← part) refl;
+      moved = rw (same, size) forgets;
+    }
+
+-- a read by the reader's closing status
+pub reads_closed : (k : Kept) (i : ℕ) (r : Reader) (old : List ℕ) (o : Option Status) (s : Status) → o ≡ Some s → ReadsBy k k i r old old o
+reads_closed k i r old o s is = rw is (refl, refl)
+
+pub reads_open : (k k' : Kept) (i : ℕ) (r : Reader) (old new : List ℕ) (o : Option Status) → o ≡ None → ReadsOpen k k' i r old new → ReadsBy k k' i r old new o
+reads_open k k' i r old new o opens is = rw opens is
+
+pub answer_closed : (o : Option Status) (s : Status) (left size : ℕ) (closed : Option Status) → o ≡ Some s → read.Failed s ≡ open_answer o left size closed
+answer_closed o s left size closed is = rw is refl
+
+pub answer_end : (o : Option Status) (left size : ℕ) (closed : Option Status) → o ≡ None → left ≡ 0 → end_answer closed ≡ open_answer o left size closed
+answer_end o left size closed opens none = rw (opens, none) refl
+
+pub answer_read : (o : Option Status) (left size n : ℕ) (closed : Option Status) → o ≡ None → 0 < left → n ≡ min left size → read.Read n ≡ open_answer o left size closed
+answer_read o left size n closed opens some is = let test : (left == 0) ≡ false = grind (arith, nat_tests) in rw (opens, test, is) refl
