@@ -140,9 +140,6 @@ told_by true kept status none = refl
 told_by false None status none = absurd (cc)
 told_by false (Some s) status none = absurd (cc)
 
-pub closed_seen : (r : Tracked) (status : Status) → r.closed ≡ None → seen (closed_reader r (kept_status status)) ≡ closed_with (seen r) status
-closed_seen r status opens = ap (λ (o : Option Status). closed_with (record { start = r.start; position = r.position; closed = o }) status) (sym opens)
-
 -- what a clone answers
 pub refused : (o : Option Status) (made : ℕ) (s : Status) → o ≡ Some s → clone_open o made ≡ Err (clone.Closed s)
 refused o made s is = rw is refl

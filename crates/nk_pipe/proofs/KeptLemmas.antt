@@ -41,12 +41,12 @@ set_get [] i r r' is = absurd (cc)
 set_get (s ∷ rs) zero r r' is = refl
 set_get (s ∷ rs) (suc i) r r' is = set_get rs i r r' is
 
-set_own : (rs : List Reader) (i : ℕ) (r : Reader) → slice_get rs i ≡ Some r → slice_set rs i r ≡ rs
+pub set_own : (rs : List Reader) (i : ℕ) (r : Reader) → slice_get rs i ≡ Some r → slice_set rs i r ≡ rs
 set_own [] i r is = refl
 set_own (s ∷ rs) zero r is = let same : s ≡ r = cc in rw same refl
 set_own (s ∷ rs) (suc i) r is = ap (λ xs. s ∷ xs) (set_own rs i r is)
 
-moved_none : (r : Reader) → moved r 0 ≡ r
+pub moved_none : (r : Reader) → moved r 0 ≡ r
 moved_none r = let same : r.position + 0 ≡ r.position = omega arith in ap (λ p. record r { position = p }) same
 
 moved_more : (r : Reader) (n m : ℕ) → moved (moved r n) m ≡ moved r (n + m)

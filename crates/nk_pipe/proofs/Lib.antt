@@ -8,3 +8,4 @@ pub mod WriteLemmas
 pub mod WholeLemmas
 pub mod KeptLemmas
 pub mod CloseLemmas
+pub mod StandsLemmas

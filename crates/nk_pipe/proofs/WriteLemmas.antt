@@ -215,3 +215,7 @@ kept_put size from written ahead segments place offset n new readers writer are 
 pub room_fits : (furthest size limit written : ℕ) → furthest ≤ written → written < 2 ^ 62 → size ≤ 65536 → limit ≤ 1024 → (furthest / size + limit) * size < 2 ^ 64
 room_fits furthest size limit written within few small low =
     omega (arith, div-mul-le_self furthest size, mul-le limit size 1024 65536 low small)
+
+pub room_small : (furthest size limit written : ℕ) → furthest ≤ written → size ≤ 65536 → limit ≤ 1024 → (furthest / size + limit) * size - written ≤ 67108864
+room_small furthest size limit written within small low =
+    omega (arith, div-mul-le_self furthest size, mul-le limit size 1024 65536 low small)

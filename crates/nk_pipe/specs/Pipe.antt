@@ -126,20 +126,28 @@ abbrev pub cloned : Option Reader → Pipe → Pipe
 cloned None p = p
 cloned (Some r) p = record p { readers = p.readers ++ reader_at r.position ∷ [] }
 
--- a close of a reader: the first is kept, and that of the last open reader closes the pipe
+-- a close of a reader: the first is kept, a later one changes nothing, and that of the last open reader closes the pipe
 abbrev pub closed_with : Reader → Status → Reader
-closed_with r status = record r { closed = first_close r.closed status }
+closed_with r status = record r { closed = Some (kept_status status) }
 
 abbrev pub close_answer : Option Reader → ℕ → Result (Unit {0}) NoReader
 close_answer None id = Err (record { 0 = id })
 close_answer (Some r) id = Ok tt
 
-abbrev pub without_reader : Option Reader → ℕ → Status → Pipe → Pipe
-without_reader None id status p = p
-without_reader (Some r) id status p =
+abbrev pub close_open : Reader → ℕ → Status → Pipe → Pipe
+close_open r id status p =
     let readers = with_numbered p.readers id (closed_with r status) in
     record p { readers = readers; closed = if has_open readers then p.closed else first_close p.closed status }
+
+abbrev pub without_reader : Option Reader → ℕ → Status → Pipe → Pipe
+without_reader None id status p = p
+without_reader (Some r) id status p = if is_open r.closed then close_open r id status p else p
 
 -- a close by the writer
 abbrev pub without_writer : Status → Pipe → Pipe
 without_writer status p = record p { closed = first_close p.closed status }
+
+-- how far a reader is
+abbrev pub position_of : Option Reader → Option ℕ
+position_of None = None
+position_of (Some r) = Some r.position

@@ -1,11 +1,14 @@
 // The pipe and its calls.
 
-ghost use Rattle.std.specs.Prelude.{◌≡◌, ◌+◌, ◌<◌, ◌≤◌, ◌^◌, ◌++◌, [], ◌∷◌, length, IfOk, OnErr};
-ghost use Rattle.nk_pipe.specs.Pipe.{Pipe as Model_, new_pipe};
+ghost use Rattle.std.specs.Prelude.{◌≡◌, ◌+◌, ◌<◌, ◌≤◌, ◌^◌, ◌++◌, [], ◌∷◌, true, length, drop, IfOk, OnOk, OnErr, None};
+ghost use Rattle.nk_pipe.specs.Pipe.{Pipe as PipeModel, new_pipe, numbered, has_open, write_count, write_answer, written_to, read_answer, read_from, handed, clone_answer, cloned, close_answer, without_reader, without_writer, position_of};
 ghost use Rattle.nk_pipe.specs.Kept.{Stands, count};
+ghost use Rattle.nk_pipe.specs.Answers.{OrMemory};
 
+use crate::answer::{CloneError, NoReader, Read, Write};
 use crate::cursor::Cursor;
 use crate::reader::Reader;
+use crate::status::first_close;
 use nk_base::{Memory, Status};
 use nk_segments::Segments;
 use std::alloc::Global;
@@ -81,10 +84,90 @@ impl Pipe {
         Ok((pipe, 1))
     }
 
+    /// Writes the first of the bytes, as many as there is room for. All memory is taken before anything changes; after
+    /// `Memory` only what finds room in segments may have grown.
+    pub fn write(&mut self, bytes: &[u8]) -> Result<Write, Memory>
+        requires { count self.old < 2 ^ 62 }
+        ensures answer { (p : PipeModel) → Stands self.old p → IfOk result (λ w. w ≡ write_answer p.closed (write_count p bytes.now) (length bytes.now)) }
+        ensures state { (p : PipeModel) → Stands self.old p → OnOk result (Stands self.new (written_to p.closed bytes.now p)) }
+        ensures err { OnErr result (self.new ≡ record self.old { ahead = self.new.ahead }) }
+        ensures told { self.old.closed ≡ None → has_open self.old.readers ≡ true }
+    {
+        if let Some(status) = self.closed {
+            return Ok(Write::Closed(status));
+        }
+        let n = self.room().min(bytes.len() as u64);
+        if n == 0 && !bytes.is_empty() {
+            return Ok(Write::WouldBlock);
+        }
+        self.make_room(n)?;
+        self.append(&bytes[..n as usize]);
+        Ok(Write::Wrote(n as u32))
+    }
+
+    /// Hands a reader out what is left for it, as much as the buffer takes, into the front of the buffer.
+    pub fn read_into(&mut self, reader: u32, buffer: &mut [u8]) -> Result<Read, NoReader>
+        requires { length buffer.old < 2 ^ 32 }
+        ensures answer { (p : PipeModel) → Stands self.old p → result ≡ read_answer (numbered p.readers reader) reader (length buffer.old) p }
+        ensures state { (p : PipeModel) → Stands self.old p → Stands self.new (read_from (numbered p.readers reader) reader (length buffer.old) p) }
+        ensures bytes { (p : PipeModel) → Stands self.old p → let h = handed (numbered p.readers reader) (length buffer.old) p.written in buffer.new ≡ h ++ drop (length h) buffer.old }
+    {
+        match self.index(reader) {
+            Some(i) => Ok(self.read_at(i, buffer)),
+            None => Err(NoReader(reader)),
+        }
+    }
+
+    /// Makes a reader that starts where another stands, and gives its number. The writer may have closed.
+    pub fn clone_reader(&mut self, reader: u32) -> Result<u32, CloneError>
+        ensures answer { (p : PipeModel) → Stands self.old p → OrMemory (clone_answer (numbered p.readers reader) reader (length p.readers)) result }
+        ensures state { (p : PipeModel) → Stands self.old p → OnOk result (Stands self.new (cloned (numbered p.readers reader) p)) }
+        ensures err { OnErr result (self.new ≡ self.old) }
+    {
+        match self.index(reader) {
+            Some(i) => self.clone_at(i),
+            None => Err(CloneError::NoReader(reader)),
+        }
+    }
+
+    /// Closes a reader alone; the close of the last open one closes the pipe. The first close is kept.
+    pub fn close_reader(&mut self, reader: u32, status: Status) -> Result<(), NoReader>
+        ensures answer { (p : PipeModel) → Stands self.old p → result ≡ close_answer (numbered p.readers reader) reader }
+        ensures state { (p : PipeModel) → Stands self.old p → Stands self.new (without_reader (numbered p.readers reader) reader status p) }
+    {
+        match self.index(reader) {
+            Some(i) => {
+                if self.is_open(i) {
+                    self.close_at(i, status);
+                }
+                Ok(())
+            }
+            None => Err(NoReader(reader)),
+        }
+    }
+
+    /// Closes the pipe from the writer's side: what was written can still be read. The first close is kept.
+    pub fn close_writer(&mut self, status: Status)
+        ensures { (p : PipeModel) → Stands self.old p → Stands self.new (without_writer status p) }
+    {
+        self.closed = first_close(self.closed, status);
+    }
+
     /// The number of bytes written.
     pub fn written(&self) -> u64
-        ensures { result ≡ count self.now }
+        ensures count { result ≡ count self.now }
+        ensures written { (p : PipeModel) → Stands self.now p → result ≡ length p.written }
     {
         self.written
+    }
+
+    /// How far a reader is, `None` exactly where that number was never given.
+    pub fn position(&self, reader: u32) -> Option<u64>
+        ensures { (p : PipeModel) → Stands self.now p → result ≡ position_of (numbered p.readers reader) }
+    {
+        match self.index(reader) {
+            Some(i) => Some(self.readers[i].position),
+            None => None,
+        }
     }
 }

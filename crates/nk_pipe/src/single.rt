@@ -1,7 +1,7 @@
 // The calls on one reader, by its index.
 
 ghost use Rattle.std.specs.Prelude.{◌≡◌, ◌+◌, ◌-◌, ◌<◌, ◌≤◌, ◌^◌, ◌++◌, [], ◌∷◌, length, IfSome, IfOk, OnOk, OnErr, MatchOption, slice_get};
-ghost use Rattle.nk_pipe.specs.Pipe.{numbered, reader_at, open_answer, end_answer};
+ghost use Rattle.nk_pipe.specs.Pipe.{numbered, reader_at, open_answer, end_answer, is_open};
 ghost use Rattle.nk_pipe.specs.Kept.{count, Forgets, OpenAt, ReadsBy, without};
 ghost use Rattle.nk_pipe.specs.Answers.{ClonedBy};
 
@@ -60,6 +60,14 @@ impl Pipe {
         let n = buffer.len().min(left as usize);
         self.hand_out(i, &mut buffer[..n]);
         Read::Read(n as u32)
+    }
+
+    /// Whether the reader at this index is open.
+    pub(crate) fn is_open(&self, i: usize) -> bool
+        requires { i < length self.now.readers }
+        ensures { IfSome (slice_get self.now.readers i) (λ r. result ≡ is_open r.closed) }
+    {
+        self.readers[i].closed.is_none()
     }
 
     /// A close of the open reader at this index.

@@ -15,7 +15,8 @@ impl Pipe {
     /// The number of bytes that there is room for.
     pub(crate) fn room(&self) -> u64
         requires { count self.now < 2 ^ 62 }
-        ensures { result ≡ room_for self.now.segment self.now.limit self.now.readers (count self.now) }
+        ensures room { result ≡ room_for self.now.segment self.now.limit self.now.readers (count self.now) }
+        ensures few { result ≤ 67108864 }
     {
         let (segment, limit) = (u64::from(self.segment), u64::from(self.limit));
         let taken = furthest(&self.readers) / segment + limit;

@@ -10,7 +10,7 @@ use Rattle.nk_pipe.specs.Laid.{IsPipe, all_seen, past, released_at}
 use Rattle.nk_pipe.proofs.ReaderLemmas.{read_get, seen_get, seen-set}
 use Rattle.nk_pipe.proofs.LaidLemmas.{Loses}
 use Rattle.nk_pipe.proofs.PipeLemmas.{Reading, reading, pipe_after, forgotten, open_below, length-slice_set}
-use Rattle.nk_pipe.proofs.CloseLemmas.{closed_seen, closed_reader, closed, may_release, told_by}
+use Rattle.nk_pipe.proofs.CloseLemmas.{closed_reader, closed, may_release, told_by}
 use Rattle.nk_pipe.proofs.pipe.Pipe.close_at.Goals as goal
 
 facts : (s : Inside) (i : ℕ) (r : Tracked) → IsPipe s.segment s.limit s.segments s.readers.items s.writer s.written s.ahead s.closed → OpenAt (all_seen s.readers.items) i → r ≡ get_or s.readers.items i r
@@ -54,5 +54,5 @@ returns c =
     rw (← c.self.view_is, seen_get c.self.inside.readers.items c.args.i c.index-reader.result.now f.get) (
       g.count,
       g.within,
-      rw (c.release.ensures, c.close_of_reader-self-inside.ensures, c.any_open.ensures, c.deref.ensures.value, seen-set, g.past, g.bytes, c.kept_status.ensures, closed_seen c.index-reader.result.now c.args.status f.opens) refl,
+      rw (c.release.ensures, c.close_of_reader-self-inside.ensures, c.any_open.ensures, c.deref.ensures.value, seen-set, g.past, g.bytes, c.kept_status.ensures) refl,
     )
