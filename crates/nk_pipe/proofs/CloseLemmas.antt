@@ -1,20 +1,20 @@
 -- Lemmas on readers that come and go.
-use Rattle.std.proofs.Common.{◌≡◌, ◌≢◌, ℕ, zero, suc, ◌+◌, ◌-◌, ◌<◌, ◌≤◌, Bool, true, false, List, [], ◌∷◌, ◌++◌, length, drop, Option, Some, None, refl, sym, ap, ◌∙◌, arith, if◌then◌else◌}
-use Rattle.std.specs.Prelude.{nat_le, nat_lt, Ok, Err, slice_get, slice_set}
+use Rattle.std.proofs.Common.{◌≡◌, ℕ, ◌+◌, ◌<◌, ◌≤◌, Bool, true, false, List, [], ◌∷◌, ◌++◌, length, Option, Some, None, refl, sym, ap, ◌∙◌, arith, if◌then◌else◌}
+use Rattle.std.specs.Prelude.{nat_le, Ok, Err, slice_get, slice_set}
 use Rattle.std.proofs.lemmas.Bool.Decides.{nat_tests}
 use Rattle.nk_base.specs.declared.status.Status.{Status}
-use Rattle.nk_segments.specs.Places.{Place, IsLive}
-use Rattle.nk_segments.specs.Segments.{Segment, Segments, raised, lowered, changed_from, since, needed, AreSegments, AreHeld, AreBelowEight}
+use Rattle.nk_segments.specs.Places.{Place}
+use Rattle.nk_segments.specs.Segments.{Segment, raised, lowered, changed_from, AreSegments}
 use Rattle.nk_segments.proofs.SegmentLemmas.{segments-lowered_from, segments-raised_from}
 use Rattle.nk_pipe.specs.declared.answer.CloneError.TheVariants as clone
 use Rattle.nk_pipe.specs.declared.cursor.Cursor.{Cursor}
 use Rattle.nk_pipe.specs.declared.reader.Reader.{Reader as Tracked}
-use Rattle.nk_pipe.specs.Pipe.{Reader, is_open, has_open, first_close, kept_status, closed_with, clone_open}
-use Rattle.nk_pipe.specs.Laid.{seen, all_seen, joined, kept_bytes, past, cursor_over, stands_before, standing, HeldAt, released_at, MayHoldAt, held_at, AreCounted, IsPlaced, ArePlaced, IsLaid, IsPipe}
-use Rattle.nk_pipe.proofs.CursorLemmas.{IsAt, IsEnd, at_live, cursor_end}
+use Rattle.nk_pipe.specs.Pipe.{has_open, first_close, clone_open}
+use Rattle.nk_pipe.specs.Laid.{seen, all_seen, joined, standing, HeldAt, released_at, MayHoldAt, held_at}
+use Rattle.nk_pipe.proofs.CursorLemmas.{IsEnd, at_live, cursor_end}
 use Rattle.nk_pipe.proofs.CountLemmas.{one_before, before_no, counted_closed, counted_held, counted_end, below_since, standing-set, standing-append, standing_few}
 use Rattle.nk_pipe.proofs.ReaderLemmas.{seen-set, seen-append, seen_get, length_seen}
-use Rattle.nk_pipe.proofs.LaidLemmas.{Loses, loses_needed, loses_none, placed_set, placed_append, placed_same, placed_by, reader_at_place, cursor-from, joined-from, stands_open, has_open-set}
+use Rattle.nk_pipe.proofs.LaidLemmas.{Loses, loses_needed, loses_none, placed_set, placed_append, placed_same, reader_at_place, cursor-from, joined-from, stands_open}
 use Rattle.nk_pipe.proofs.PipeLemmas.{Reading, held}
 
 -- a reader that is closed, and one that starts where another stands
@@ -76,8 +76,7 @@ may_release size from written ahead segments readers writer i r are reading =
 may_by : (size from written ahead : ℕ) (segments : List (Place × Segment)) (readers : List Tracked) (writer : Cursor) (i : ℕ) (r : Tracked) (o : Option Place) → Reading size from written ahead segments readers writer i r → length readers < 8 → r.cursor.place ≡ o → MayHoldAt segments o
 may_by size from written ahead segments readers writer i r None reading few place = tt
 may_by size from written ahead segments readers writer i r (Some p) reading few place =
-    let laid = reading.laid in
-    (
+    let laid = reading.laid in (
       at_live size from segments r.position p r.cursor.offset (reader_at_place size from written segments r p reading.placed place),
       below_since size from segments p (standing (all_seen readers)) (λ x. omega (arith, few, length_seen readers, standing_few (all_seen readers) x)) laid.counted,
     )

@@ -1,14 +1,12 @@
 -- Lemmas on the counts of the segments, as readers move, come and go.
-use Rattle.std.proofs.Common.{◌≡◌, ◌≢◌, ℕ, zero, suc, ◌+◌, ◌-◌, ◌<◌, ◌≤◌, ◌⊎◌, ◌==◌, inl, inr, Bool, true, false, List, [], ◌∷◌, ◌++◌, length, take, drop, Option, Some, None, refl, sym, ap, subst, ◌∙◌, arith, if◌then◌else◌}
+use Rattle.std.proofs.Common.{◌≡◌, ◌≢◌, ℕ, zero, suc, ◌+◌, ◌<◌, ◌≤◌, inl, inr, true, List, [], ◌∷◌, ◌++◌, length, Some, None, sym, ap, ◌∙◌, arith, if◌then◌else◌}
 use Rattle.std.specs.Prelude.{nat_lt, slice_get, slice_set}
 use Rattle.std.proofs.lemmas.Bool.Decides.{nat_tests}
-use Rattle.std.proofs.lemmas.Grind.{common_steps}
-use Rattle.nk_segments.specs.Places.{Place, item_at, place_after, IsLive}
+use Rattle.nk_segments.specs.Places.{Place, item_at}
 use Rattle.nk_segments.proofs.Places.{live_differs}
-use Rattle.nk_segments.specs.Segments.{Segment, raised, lowered, with_bytes, changed_all, changed_at, changed_from, since, AreBelowEight, AreHeld, AreSegments}
-use Rattle.nk_pipe.specs.declared.cursor.Cursor.{Cursor}
-use Rattle.nk_pipe.specs.Pipe.{Reader, is_open, has_open}
-use Rattle.nk_pipe.specs.Laid.{cursor_over, joined, AreCounted, standing, stands_before}
+use Rattle.nk_segments.specs.Segments.{Segment, raised, lowered, changed_all, changed_at, changed_from, since, AreBelowEight, AreHeld, AreSegments}
+use Rattle.nk_pipe.specs.Pipe.{Reader, is_open}
+use Rattle.nk_pipe.specs.Laid.{AreCounted, standing, stands_before}
 use Rattle.nk_pipe.proofs.CursorLemmas.{IsAt, IsEnd, at_live}
 
 -- one reader of this position stands before x, or none

@@ -1,12 +1,11 @@
 -- Lemmas on where a position stands in the segments.
-use Rattle.std.proofs.Common.{◌≡◌, ◌≢◌, ℕ, ◌+◌, ◌-◌, ◌<◌, ◌≤◌, ◌⊎◌, inl, inr, Bool, true, false, List, [], ◌∷◌, ◌++◌, length, take, drop, Option, Some, None, refl, sym, ap, subst, ◌∙◌, arith, if◌then◌else◌}
-use Rattle.std.specs.Prelude.{nat_lt}
-use Rattle.std.proofs.lemmas.List.{length-append, length-take, length-drop, append_assoc, drop-append-le, take-append-le, take_at, drop_at, append-nil}
+use Rattle.std.proofs.Common.{◌≡◌, ◌≢◌, ℕ, ◌+◌, ◌-◌, ◌<◌, ◌≤◌, ◌⊎◌, inl, inr, List, [], ◌∷◌, ◌++◌, length, take, drop, Some, None, refl, sym, ap, ◌∙◌, arith}
+use Rattle.std.proofs.lemmas.List.{length-append, length-drop, drop-append-le, take-append-le}
 use Rattle.std.proofs.lemmas.Bool.Decides.{nat_tests}
 use Rattle.std.proofs.lemmas.Grind.{common_steps}
 use Rattle.nk_segments.specs.Places.{Place, first_place, item_at, place_after, IsLive}
-use Rattle.nk_segments.proofs.Places.{place_of_key, live_differs, live_later, item_at-own, item_at-other, place_after-own, place_after-other}
-use Rattle.nk_segments.specs.Segments.{Segment, overwritten, with_bytes, changed_all, changed_at, changed_from, since, AreSegments}
+use Rattle.nk_segments.proofs.Places.{live_differs, live_later, item_at-own, item_at-other, place_after-own, place_after-other}
+use Rattle.nk_segments.specs.Segments.{Segment, AreSegments}
 use Rattle.nk_pipe.specs.declared.cursor.Cursor.{Cursor}
 use Rattle.nk_pipe.specs.Laid.{joined, cursor_over}
 
@@ -135,4 +134,4 @@ module _ (size : ℕ) where
       let differs = apart e rest place are.2 (at_live (from + size) rest position place offset later.1) in
       let behind : length e.1.bytes + (position - (from + size)) ≡ position - from = omega (arith, are.0, later.0) in
       rw (drop_past e.1.bytes (joined rest) (position - from) (position - (from + size)) behind)
-          (at_bytes (from + size) rest position place offset n s fits are.3 (sym (item_at-other e rest place differs) ∙ item) later.1)
+      (at_bytes (from + size) rest position place offset n s fits are.3 (sym (item_at-other e rest place differs) ∙ item) later.1)

@@ -1,16 +1,11 @@
 -- Lemmas on the segments at the front that are given back, and on new ones behind.
-use Rattle.std.proofs.Common.{◌≡◌, ◌≢◌, ℕ, zero, suc, ◌+◌, ◌-◌, ◌<◌, ◌≤◌, ◌⊎◌, ◌==◌, inl, inr, Bool, true, false, List, [], ◌∷◌, ◌++◌, length, take, drop, min, Option, Some, None, refl, sym, ap, subst, ◌∙◌, arith, if◌then◌else◌}
-use Rattle.std.specs.Prelude.{nat_lt, slice_get, slice_set}
-use Rattle.std.proofs.lemmas.List.{length-append, length-take, length-drop, append_assoc, drop-append-le, take-append-le}
+use Rattle.std.proofs.Common.{◌≡◌, ℕ, suc, ◌+◌, ◌-◌, ◌<◌, ◌≤◌, ◌==◌, List, [], ◌∷◌, ◌++◌, length, drop, refl, arith, if◌then◌else◌}
+use Rattle.std.proofs.lemmas.List.{length-append}
 use Rattle.std.proofs.lemmas.Bool.Decides.{nat_tests}
 use Rattle.std.proofs.lemmas.Grind.{common_steps}
-use Rattle.nk_base.specs.declared.status.Status.{Status}
-use Rattle.nk_segments.specs.Places.{Place, item_at, place_after, IsLive}
+use Rattle.nk_segments.specs.Places.{Place}
 use Rattle.nk_segments.specs.Segments.{Segment, needed, AreSegments}
-use Rattle.nk_pipe.specs.declared.cursor.Cursor.{Cursor}
-use Rattle.nk_pipe.specs.declared.reader.Reader.{Reader as Tracked}
-use Rattle.nk_pipe.specs.Pipe.{Reader, is_open, has_open}
-use Rattle.nk_pipe.specs.Laid.{joined, cursor_over, AreCounted, ArePlaced, IsPlaced, standing, stands_before, all_seen, seen}
+use Rattle.nk_pipe.specs.Laid.{joined, cursor_over, AreCounted}
 
 drop_front : (xs ys : List ℕ) (n k : ℕ) → n ≡ length xs + k → drop n (xs ++ ys) ≡ drop k ys
 drop_front [] ys n k is = let same : n ≡ k = omega (arith, is) in rw same refl

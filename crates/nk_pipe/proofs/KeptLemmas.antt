@@ -1,7 +1,7 @@
 -- Lemmas on what is kept, as a reader takes bytes part by part.
-use Rattle.std.proofs.Common.{◌≡◌, ℕ, zero, suc, ◌+◌, ◌-◌, ◌<◌, ◌≤◌, ◌==◌, Bool, true, false, List, [], ◌∷◌, ◌++◌, length, take, drop, min, Option, Some, None, refl, sym, ap, ◌∙◌, arith}
+use Rattle.std.proofs.Common.{◌≡◌, ℕ, zero, suc, ◌+◌, ◌-◌, ◌<◌, ◌≤◌, ◌==◌, false, List, [], ◌∷◌, ◌++◌, length, take, drop, min, Option, Some, None, refl, sym, ap, ◌∙◌, arith}
 use Rattle.std.specs.Prelude.{slice_get, slice_set, IfSome, IsSome}
-use Rattle.std.proofs.lemmas.List.{length-append, length-take, length-drop, take-take, drop-drop, set-set, take_at, append_assoc, nil_from_length, take_min}
+use Rattle.std.proofs.lemmas.List.{length-take, length-drop, take-take, drop-drop, set-set, take_at, append_assoc, nil_from_length, take_min}
 use Rattle.std.proofs.lemmas.Bool.Decides.{nat_tests}
 use borrow.Rule.Slice.PartMut.{put_mid, post_of}
 use Rattle.nk_pipe.specs.Pipe.{Reader, moved, open_answer, end_answer}
@@ -64,8 +64,7 @@ pub forgets_more : (k k1 k2 : Kept) (i n m : ℕ) (r : Reader) → Forgets (reco
     → Forgets (record k { readers = slice_set k.readers i (moved r (n + m)) }) k2
 forgets_more k k1 k2 i n m r first second =
     let few : second.0 ≤ length (drop first.0 k.bytes) = rw first.2 at second.1 in
-    let there : k.past + first.0 + second.0 ≡ k.past + (first.0 + second.0) = omega arith in
-    (
+    let there : k.past + first.0 + second.0 ≡ k.past + (first.0 + second.0) = omega arith in (
       first.0 + second.0,
       omega (arith, few, length-drop first.0 k.bytes, first.1),
       second.2 ∙ rw (first.2, set-set k.readers i (moved r n) (moved (moved r n) m), moved_more r n m, drop-drop second.0 first.0 k.bytes, there) refl,
@@ -79,13 +78,13 @@ handed_more past position done n forgot bytes buffer part rest within early ther
     let k : ℕ = position - past in
     let a : forgot + (position + done - (past + forgot)) ≡ position - past + done = omega (arith, early, there) in
     let taken : take n (drop (position + done - (past + forgot)) (drop forgot bytes)) ≡ take n (drop done (drop (position - past) bytes)) =
-      rw (drop-drop (position + done - (past + forgot)) forgot bytes, a, drop-drop done (position - past) bytes) refl in
+    rw (drop-drop (position + done - (past + forgot)) forgot bytes, a, drop-drop done (position - past) bytes) refl in
     let long : length (take n (drop done (drop (position - past) bytes))) ≡ n = omega (arith, early, few, left, within, length-take n (drop done (drop (position - past) bytes)), length-drop done (drop (position - past) bytes), length-drop (position - past) bytes) in
     let first : length (take done buffer) ≡ done = omega (arith, within, length-take done buffer) in
     let whole : part ≡ take n (drop done (drop (position - past) bytes)) ++ rest = is ∙ ap (λ xs. xs ++ rest) taken in
     take_front (take done buffer) (part ++ post_of done (length buffer - done) buffer) (done + n) n (omega (arith, first))
     ∙ rw (whole, append_assoc (take n (drop done (drop (position - past) bytes))) rest (post_of done (length buffer - done) buffer), before, take_at (take n (drop done (drop (position - past) bytes))) (rest ++ post_of done (length buffer - done) buffer) n long)
-        (take_more_by done n (drop (position - past) bytes))
+    (take_more_by done n (drop (position - past) bytes))
 
 -- as many bytes were written as before
 pub count_same : (k k1 : Kept) (rs : List Reader) → Forgets (record k { readers = rs }) k1 → count k1 ≡ count k
@@ -100,7 +99,7 @@ next_part k k1 i done n buffer part rest r forgets is within early there few lef
     let past : k1.past ≡ k.past + forgets.0 = ap (λ (v : Kept). v.past) forgets.2 in
     let bytes : k1.bytes ≡ drop forgets.0 k.bytes = ap (λ (v : Kept). v.bytes) forgets.2 in
     let part_is : part ≡ take n (drop (r.position + done - (k.past + forgets.0)) (drop forgets.0 k.bytes)) ++ rest =
-      is ∙ ap (λ xs. take n xs ++ rest) (ap (λ p. drop (r.position + done - p) k1.bytes) past ∙ ap (λ xs. drop (r.position + done - (k.past + forgets.0)) xs) bytes) in
+    is ∙ ap (λ xs. take n xs ++ rest) (ap (λ p. drop (r.position + done - p) k1.bytes) past ∙ ap (λ xs. drop (r.position + done - (k.past + forgets.0)) xs) bytes) in
     handed_more k.past r.position done n forgets.0 k.bytes buffer part rest within early (omega (arith, there, past)) few left part_is before
 
 -- the reader as it is when it has moved

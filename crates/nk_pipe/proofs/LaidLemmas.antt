@@ -1,22 +1,19 @@
 -- Lemmas on the layout of a pipe, as each step changes it.
-use Rattle.std.proofs.Common.{◌≡◌, ◌≢◌, ℕ, zero, suc, ◌+◌, ◌-◌, ◌<◌, ◌≤◌, ◌⊎◌, ◌==◌, inl, inr, Bool, true, false, ◌||◌, List, [], ◌∷◌, ◌++◌, length, take, drop, replicate, Option, Some, None, refl, sym, ap, subst, ◌∙◌, arith, if◌then◌else◌}
+use Rattle.std.proofs.Common.{◌≡◌, ℕ, zero, suc, ◌+◌, ◌-◌, ◌<◌, ◌≤◌, ◌⊎◌, inl, inr, true, false, ◌||◌, List, [], ◌∷◌, ◌++◌, drop, Option, Some, None, refl, sym, ap, ◌∙◌, arith}
 use Rattle.std.specs.Prelude.{nat_lt, slice_get, slice_set}
-use Rattle.std.proofs.lemmas.List.{length-append, length-take, length-drop, length-replicate, append_assoc, drop-append-le, take-append-le, append-nil}
 use Rattle.std.proofs.lemmas.Bool.Decides.{nat_tests}
-use Rattle.std.proofs.lemmas.Grind.{common_steps}
 use Rattle.nk_base.specs.declared.status.Status.{Status}
-use Rattle.nk_segments.specs.Places.{Place, item_at, place_after, IsLive}
-use Rattle.nk_segments.specs.Segments.{Segment, overwritten, raised, lowered, with_bytes, changed_all, changed_at, changed_from, since, needed, AreSegments, AreHeld, AreBelowEight}
-use Rattle.nk_segments.proofs.SegmentLemmas.{segments-lowered_at, segments-lowered_from, segments-needed}
-use Rattle.nk_segments.proofs.Onward.{held_here}
+use Rattle.nk_segments.specs.Places.{Place, place_after}
+use Rattle.nk_segments.specs.Segments.{Segment, lowered, changed_all, changed_at, changed_from, needed, AreSegments}
+use Rattle.nk_segments.proofs.SegmentLemmas.{segments-lowered_at, segments-needed}
 use Rattle.nk_pipe.specs.declared.cursor.Cursor.{Cursor}
 use Rattle.nk_pipe.specs.declared.reader.Reader.{Reader as Tracked}
-use Rattle.nk_pipe.specs.Pipe.{Reader, is_open, has_open}
-use Rattle.nk_pipe.specs.Laid.{seen, all_seen, joined, filled, kept_bytes, past, cursor_over, cursor_in, left_at, stands_before, standing, AreCounted, IsPlaced, ArePlaced, IsLaid}
-use Rattle.nk_pipe.proofs.CursorLemmas.{IsAt, IsEnd, bound, at_small, at_live, at_cursor, cursor_at, cursor_end, end_behind, at_within, at_next, at_bytes}
-use Rattle.nk_pipe.proofs.CountLemmas.{one_before, counted_within, counted_left, counted_closed, counted_held, counted_end, counted_same, held_since, below_since, standing-set, standing-append, standing_few, standing_some, before_yes}
+use Rattle.nk_pipe.specs.Pipe.{is_open, has_open}
+use Rattle.nk_pipe.specs.Laid.{seen, all_seen, joined, cursor_over, cursor_in, left_at, stands_before, standing, AreCounted, IsPlaced, ArePlaced, IsLaid}
+use Rattle.nk_pipe.proofs.CursorLemmas.{IsAt, bound, at_cursor, cursor_at, at_within, at_next}
+use Rattle.nk_pipe.proofs.CountLemmas.{one_before, counted_within, counted_left, standing-set, before_yes}
 use Rattle.nk_pipe.proofs.FreeLemmas.{front, front_behind, front_ends, front_counted, front_reached, front_cursor, front_joined}
-use Rattle.nk_pipe.proofs.ReaderLemmas.{seen-set, seen-append, seen_get, length_seen}
+use Rattle.nk_pipe.proofs.ReaderLemmas.{seen-set, seen_get}
 
 -- what a change of segments that moves none and keeps their bytes leaves
 pub joined-at : (f : Segment → Segment) → ((s : Segment) → (f s).bytes ≡ s.bytes) → (segments : List (Place × Segment)) (place : Place) → joined (changed_at f segments place) ≡ joined segments
@@ -197,8 +194,8 @@ taken_within size from written ahead segments readers writer i r place n laid ge
       starts = laid.starts;
       counted = counted_within size from segments r.position place r.cursor.offset n (standing (all_seen readers)) (standing (all_seen (slice_set readers i r'))) fits at (moves_by readers i r r' n get opens opens refl) laid.counted;
       placed = placed_set size from written segments readers i r'
-      (placed_by size from written segments r'.position r'.cursor r'.closed opens (omega (arith, within), left, sym (at_cursor size from segments (r.position + n) place (r.cursor.offset + n) (at_within size from segments r.position place r.cursor.offset n fits at))))
-      laid.placed;
+          (placed_by size from written segments r'.position r'.cursor r'.closed opens (omega (arith, within), left, sym (at_cursor size from segments (r.position + n) place (r.cursor.offset + n) (at_within size from segments r.position place r.cursor.offset n fits at))))
+          laid.placed;
       writes = laid.writes;
     }
 
@@ -214,8 +211,8 @@ taken_past size from written ahead segments readers writer i r place n some are 
       starts = laid.starts;
       counted = counted_left size from segments r.position place r.cursor.offset n (standing (all_seen readers)) (standing (all_seen (slice_set readers i r'))) ends some are at (moves_by readers i r r' n get opens opens refl) laid.counted;
       placed = placed_set size from written (changed_at lowered segments place) readers i r'
-      (placed_by size from written (changed_at lowered segments place) r'.position r'.cursor r'.closed opens (omega (arith, within), left, sym (same (r.position + n) ∙ at_next size from segments r.position place r.cursor.offset n ends are at)))
-      (placed_same size from written segments (changed_at lowered segments place) same readers laid.placed);
+          (placed_by size from written (changed_at lowered segments place) r'.position r'.cursor r'.closed opens (omega (arith, within), left, sym (same (r.position + n) ∙ at_next size from segments r.position place r.cursor.offset n ends are at)))
+          (placed_same size from written segments (changed_at lowered segments place) same readers laid.placed);
       writes = laid.writes ∙ sym (same written);
     }
 
@@ -230,7 +227,7 @@ taken_test size from written ahead segments readers writer i r place n some are 
     let test : nat_lt (r.cursor.offset + n) size ≡ false = grind (arith, nat_tests) in
     let ends : r.cursor.offset + n ≡ size = omega (arith, fits, full) in
     rw test (loses_needed size from written ahead segments (changed_at lowered segments place) _ writer (segments-lowered_at size segments place are) (joined-at lowered (λ s. refl) segments place)
-        (λ _. taken_past size from written ahead segments readers writer i r place n some are laid get opens at ends within left))
+    (λ _. taken_past size from written ahead segments readers writer i r place n some are laid get opens at ends within left))
 
 -- a reader has taken some bytes of its segment
 pub taken : (size from written ahead : ℕ) (segments : List (Place × Segment)) (readers : List Tracked) (writer : Cursor) (i : ℕ) (r : Tracked) (place : Place) (n : ℕ)

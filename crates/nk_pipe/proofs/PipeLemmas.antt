@@ -1,7 +1,7 @@
 -- Lemmas on what a pipe keeps: its value, and the facts of the type.
-use Rattle.std.proofs.Common.{◌≡◌, ◌≢◌, ℕ, zero, suc, ◌+◌, ◌-◌, ◌<◌, ◌≤◌, ◌⊎◌, ◌==◌, inl, inr, Bool, true, false, ◌||◌, List, [], ◌∷◌, ◌++◌, length, take, drop, min, Option, Some, None, refl, sym, ap, subst, ◌∙◌, arith, if◌then◌else◌}
-use Rattle.std.specs.Prelude.{nat_lt, slice_get, slice_set, IfSome, IsSome}
-use Rattle.std.proofs.lemmas.List.{length-append, length-take, length-drop, drop_min, take-take}
+use Rattle.std.proofs.Common.{◌≡◌, ℕ, zero, suc, ◌+◌, ◌-◌, ◌<◌, ◌≤◌, true, List, [], ◌∷◌, length, take, drop, min, Option, Some, None, refl, sym, ap, ◌∙◌, arith}
+use Rattle.std.specs.Prelude.{slice_get, slice_set, IfSome, IsSome}
+use Rattle.std.proofs.lemmas.List.{length-take, length-drop, drop_min, take-take}
 use Rattle.std.proofs.lemmas.Grind.{common_steps}
 use Rattle.std.proofs.lemmas.Bool.Decides.{nat_tests}
 use Rattle.nk_base.specs.declared.status.Status.{Status}
@@ -10,12 +10,12 @@ use Rattle.nk_segments.specs.Segments.{Segment, Segments, AreSegments, AreHeld, 
 use Rattle.nk_segments.proofs.Onward.{held_here}
 use Rattle.nk_pipe.specs.declared.cursor.Cursor.{Cursor}
 use Rattle.nk_pipe.specs.declared.reader.Reader.{Reader as Tracked}
-use Rattle.nk_pipe.specs.Pipe.{Reader, is_open, has_open}
+use Rattle.nk_pipe.specs.Pipe.{has_open}
 use Rattle.nk_pipe.specs.Kept.{OpenAt}
-use Rattle.nk_pipe.specs.Laid.{seen, all_seen, joined, filled, kept_bytes, past, cursor_over, standing, IsPlaced, ArePlaced, IsLaid, IsPipe}
-use Rattle.nk_pipe.proofs.CursorLemmas.{IsAt, IsEnd, at_small, at_live, cursor_end, end_behind}
+use Rattle.nk_pipe.specs.Laid.{seen, all_seen, joined, filled, kept_bytes, past, standing, IsPlaced, IsLaid, IsPipe}
+use Rattle.nk_pipe.proofs.CursorLemmas.{cursor_end, end_behind}
 use Rattle.nk_pipe.proofs.CountLemmas.{held_since, standing_some}
-use Rattle.nk_pipe.proofs.ReaderLemmas.{seen_get, read_get, length_seen}
+use Rattle.nk_pipe.proofs.ReaderLemmas.{seen_get}
 use Rattle.nk_pipe.proofs.LaidLemmas.{Loses, has_open-set, placed_open, reader_at_place}
 
 -- as many bytes were written as were given back and are kept

@@ -1,11 +1,10 @@
 -- Lemmas on the model that a pipe stands for.
-use Rattle.std.proofs.Common.{◌≡◌, ℕ, zero, suc, ◌+◌, ◌-◌, ◌<◌, ◌≤◌, ◌==◌, Bool, true, false, List, [], ◌∷◌, ◌++◌, length, take, drop, min, Option, Some, None, refl, sym, ap, subst, ◌∙◌, arith, if◌then◌else◌}
-use Rattle.std.specs.Prelude.{is_some, not, slice_get, slice_set, IfSome}
-use Rattle.std.proofs.lemmas.List.{length-append, length-take, length-drop, append_assoc, take-append-drop, take_min}
-use Rattle.std.proofs.lemmas.Bool.Decides.{nat_tests}
+use Rattle.std.proofs.Common.{◌≡◌, ℕ, zero, suc, ◌+◌, ◌-◌, ◌<◌, ◌≤◌, Bool, true, false, List, [], ◌∷◌, ◌++◌, length, take, drop, replicate, Option, Some, None, refl, sym, ap, subst, ◌∙◌, arith, if◌then◌else◌}
+use Rattle.std.specs.Prelude.{is_some, not, slice_get, slice_set}
+use Rattle.std.proofs.lemmas.List.{length-append, length-take, append_assoc, take-append-drop, length-replicate}
 use Rattle.nk_base.specs.declared.status.Status.{Status}
-use Rattle.nk_pipe.specs.Pipe.{Pipe, Reader, is_open, has_open, numbered, with_numbered, moved, handed, read_from, closed_with, without_reader, first_close}
-use Rattle.nk_pipe.specs.Kept.{Kept, Stands, Forgets, ReadsOpen, ReadsBy, count, whole, without}
+use Rattle.nk_pipe.specs.Pipe.{Pipe, Reader, is_open, has_open, numbered, with_numbered, moved, handed, read_from, closed_with, close_open, without_reader, first_close}
+use Rattle.nk_pipe.specs.Kept.{Kept, Stands, Forgets, ReadsBy, count, whole, without}
 use Rattle.nk_pipe.proofs.CursorLemmas.{drop_past}
 use Rattle.nk_pipe.proofs.ReaderLemmas.{numbered_at}
 use Rattle.nk_pipe.proofs.KeptLemmas.{set_own, moved_none}
@@ -53,17 +52,15 @@ read_by : (k k' : Kept) (i id : ℕ) (r : Reader) (old new gone : List ℕ) (o :
 read_by k k' i id r old new gone (Some s) closes get is long reads =
     let none = handed_closed gone k.bytes r s (length old) closes in
     let same : with_numbered k.readers id (moved r (length (handed (Some r) (length old) (gone ++ k.bytes)))) ≡ k.readers =
-      rw none (with_own k.readers id i (moved r 0) is ∙ ap (λ (q : Reader). slice_set k.readers i q) (moved_none r) ∙ set_own k.readers i r get) in
-    (
+    rw none (with_own k.readers id i (moved r 0) is ∙ ap (λ (q : Reader). slice_set k.readers i q) (moved_none r) ∙ set_own k.readers i r get) in (
       (gone, long ∙ sym (ap (λ (v : Kept). v.past) reads.0), ap (λ rs. record { segment = k.segment; limit = k.limit; written = gone ++ k.bytes; readers = rs; closed = k.closed }) same ∙ sym (ap (λ (v : Kept). whole gone v) reads.0)),
       reads.1 ∙ rw none refl,
     )
 read_by k k' i id r old new gone None closes get is long reads =
     let all = handed_open k gone r (length old) long reads.within closes in
     let same : with_numbered k.readers id (moved r (length (handed (Some r) (length old) (gone ++ k.bytes)))) ≡ slice_set k.readers i (moved r (length (take (length old) (drop (r.position - k.past) k.bytes)))) =
-      rw all (with_own k.readers id i (moved r (length (take (length old) (drop (r.position - k.past) k.bytes)))) is) in
-    let stands = forgets_stands (record k { readers = slice_set k.readers i (moved r (length (take (length old) (drop (r.position - k.past) k.bytes)))) }) k' gone long reads.moved in
-    (
+    rw all (with_own k.readers id i (moved r (length (take (length old) (drop (r.position - k.past) k.bytes)))) is) in
+    let stands = forgets_stands (record k { readers = slice_set k.readers i (moved r (length (take (length old) (drop (r.position - k.past) k.bytes)))) }) k' gone long reads.moved in (
       (stands.0, stands.1, ap (λ rs. record { segment = k.segment; limit = k.limit; written = gone ++ k.bytes; readers = rs; closed = k.closed }) same ∙ stands.2),
       reads.handed ∙ rw all refl,
     )
@@ -99,3 +96,32 @@ none_open None true is = refl
 none_open None false is = absurd (cc)
 none_open (Some s) true is = absurd (cc)
 none_open (Some s) false is = refl
+
+-- each pipe stands for some model, and a model's list is as long as what was written
+pub some_model : (k : Kept) → (p : Pipe) × Stands k p
+some_model k = (whole (replicate k.past 0) k, (replicate k.past 0, length-replicate k.past 0, refl))
+
+pub stands_count : (k : Kept) (p : Pipe) → Stands k p → length p.written ≡ count k
+stands_count k p stands =
+    ap (λ (q : Pipe). length q.written) stands.2 ∙ omega (arith, length-append stands.0 k.bytes, stands.1)
+
+count_by : (k k' : Kept) (p p' : Pipe) → p'.written ≡ p.written → Stands k p → Stands k' p' → count k' ≡ count k
+count_by k k' p p' same before after =
+    sym (stands_count k' p' after) ∙ ap (λ (xs : List ℕ). length xs) same ∙ stands_count k p before
+
+-- a call that writes nothing leaves the count
+pub count_kept : (k k' : Kept) (f : Pipe → Pipe) → ((p : Pipe) → (f p).written ≡ p.written) → ((p : Pipe) → Stands k p → Stands k' (f p)) → count k' ≡ count k
+count_kept k k' f same each =
+    let p = some_model k in count_by k k' p.0 (f p.0) (same p.0) p.1 (each p.0 p.1)
+
+pub read_writes_none : (o : Option Reader) (id size : ℕ) (p : Pipe) → (read_from o id size p).written ≡ p.written
+read_writes_none None id size p = refl
+read_writes_none (Some r) id size p = refl
+
+close_by : (b : Bool) (p p' : Pipe) → p'.written ≡ p.written → (if b then p' else p).written ≡ p.written
+close_by true p p' same = same
+close_by false p p' same = refl
+
+pub close_writes_none : (o : Option Reader) (id : ℕ) (status : Status) (p : Pipe) → (without_reader o id status p).written ≡ p.written
+close_writes_none None id status p = refl
+close_writes_none (Some r) id status p = close_by (is_open r.closed) p (close_open r id status p) refl

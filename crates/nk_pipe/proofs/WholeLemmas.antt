@@ -1,14 +1,13 @@
 -- Lemmas on the facts of the type and the value, as the writer changes them.
-use Rattle.std.proofs.Common.{◌≡◌, ℕ, ◌+◌, ◌-◌, ◌<◌, ◌≤◌, Bool, true, List, [], ◌∷◌, ◌++◌, length, take, drop, Option, Some, None, refl, sym, ap, ◌∙◌, arith}
-use Rattle.std.proofs.lemmas.List.{length-append, length-take}
+use Rattle.std.proofs.Common.{◌≡◌, ℕ, ◌+◌, ◌-◌, ◌≤◌, true, List, [], ◌∷◌, ◌++◌, length, Option, arith}
 use Rattle.nk_base.specs.declared.status.Status.{Status}
-use Rattle.nk_segments.specs.Places.{Place, item_at}
+use Rattle.nk_segments.specs.Places.{Place}
 use Rattle.nk_segments.specs.Segments.{Segment, Segments, with_bytes, changed_at, AreSegments}
 use Rattle.nk_segments.proofs.SegmentLemmas.{segments-put}
 use Rattle.nk_pipe.specs.declared.cursor.Cursor.{Cursor}
 use Rattle.nk_pipe.specs.declared.reader.Reader.{Reader as Tracked}
 use Rattle.nk_pipe.specs.Pipe.{has_open}
-use Rattle.nk_pipe.specs.Laid.{all_seen, joined, filled, kept_bytes, past, cursor_in, reaching, all_reaching, open_count, IsLaid, IsPipe}
+use Rattle.nk_pipe.specs.Laid.{all_seen, kept_bytes, past, cursor_in, reaching, all_reaching, open_count, IsPipe}
 use Rattle.nk_pipe.proofs.CursorLemmas.{IsAt}
 use Rattle.nk_pipe.proofs.ReaderLemmas.{seen_reaching}
 use Rattle.nk_pipe.proofs.PipeLemmas.{past_is}

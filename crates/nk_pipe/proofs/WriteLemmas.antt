@@ -1,22 +1,22 @@
 -- Lemmas on the writer: new segments behind the last one, and bytes put where it stands.
-use Rattle.std.proofs.Common.{◌≡◌, ◌≢◌, ℕ, zero, suc, ◌+◌, ◌-◌, ◌*◌, ◌/◌, ◌<◌, ◌≤◌, ◌^◌, ◌⊎◌, ◌==◌, inl, inr, Bool, true, false, ◌||◌, List, [], ◌∷◌, ◌++◌, length, take, drop, max, Option, Some, None, refl, sym, ap, subst, ◌∙◌, arith, if◌then◌else◌}
-use Rattle.std.specs.Prelude.{nat_lt, slice_get, slice_set}
-use Rattle.std.proofs.lemmas.List.{length-append, length-take, length-drop, append_assoc, drop-append-le, take-append-le, take_at}
+use Rattle.std.proofs.Common.{◌≡◌, ◌≢◌, ℕ, suc, ◌+◌, ◌-◌, ◌*◌, ◌/◌, ◌<◌, ◌≤◌, ◌^◌, ◌⊎◌, inl, inr, Bool, true, false, ◌||◌, List, [], ◌∷◌, ◌++◌, length, take, drop, max, Option, Some, None, refl, sym, ap, ◌∙◌, arith, if◌then◌else◌}
+use Rattle.std.specs.Prelude.{nat_lt}
+use Rattle.std.proofs.lemmas.List.{length-append, length-take, append_assoc, drop-append-le, take-append-le, take_at}
 use Rattle.std.proofs.Math.Nat.{div-mul-le_self}
 use Rattle.std.proofs.lemmas.Nat.{mul-le}
 use Rattle.std.proofs.lemmas.Bool.Decides.{nat_tests}
 use Rattle.std.proofs.lemmas.Grind.{common_steps}
 use Rattle.nk_base.specs.declared.status.Status.{Status}
-use Rattle.nk_segments.specs.Places.{Place, item_at, place_after, IsLive}
+use Rattle.nk_segments.specs.Places.{Place}
 use Rattle.nk_segments.proofs.Places.{live_differs}
 use Rattle.nk_segments.specs.Segments.{Segment, overwritten, with_bytes, changed_at, AreSegments}
 use Rattle.nk_segments.proofs.SegmentLemmas.{segments-put, length-overwritten}
 use Rattle.nk_pipe.specs.declared.cursor.Cursor.{Cursor}
 use Rattle.nk_pipe.specs.declared.reader.Reader.{Reader as Tracked}
 use Rattle.nk_pipe.specs.Pipe.{Reader, is_open, has_open, open_position, greatest}
-use Rattle.nk_pipe.specs.Laid.{seen, all_seen, joined, filled, kept_bytes, past, cursor_over, cursor_in, reaching, all_reaching, stands_before, standing, open_count, AreCounted, IsPlaced, ArePlaced, IsLaid}
-use Rattle.nk_pipe.proofs.CursorLemmas.{IsAt, bound, at_small, at_live, at_cursor, cursor_at, cursor_end, end_behind, at_within, at_next, cursor_here, cursor_later, drop_past}
-use Rattle.nk_pipe.proofs.CountLemmas.{before_yes, changed_at-own, changed_at-other, counted_same}
+use Rattle.nk_pipe.specs.Laid.{all_seen, joined, kept_bytes, cursor_over, cursor_in, reaching, all_reaching, stands_before, standing, open_count, AreCounted, IsPlaced, ArePlaced, IsLaid}
+use Rattle.nk_pipe.proofs.CursorLemmas.{IsAt, bound, at_live, at_cursor, cursor_at, at_within, at_next, cursor_here, cursor_later, drop_past}
+use Rattle.nk_pipe.proofs.CountLemmas.{before_yes, changed_at-own, changed_at-other}
 use Rattle.nk_pipe.proofs.ReaderLemmas.{seen_reaching}
 use Rattle.nk_pipe.proofs.LaidLemmas.{cursor-at, placed_same}
 
@@ -158,7 +158,7 @@ at_put size from (e ∷ rest) position place offset new fits are (inr later) =
     let differs : e.0.0 ≢ place.0 = λ same. live_differs rest place e.0 (at_live size (from + size) rest position place offset later.1) are.2 (sym same) in
     let behind : position - from ≡ length e.1.bytes + (position - (from + size)) = omega (arith, are.0, later.0) in
     rw (changed_at-other (with_bytes offset new) e rest place differs)
-        (ap (λ xs. e.1.bytes ++ xs) (at_put size (from + size) rest position place offset new fits are.3 later.1) ∙ overwritten_past e.1.bytes (joined rest) new (position - from) (position - (from + size)) behind)
+    (ap (λ xs. e.1.bytes ++ xs) (at_put size (from + size) rest position place offset new fits are.3 later.1) ∙ overwritten_past e.1.bytes (joined rest) new (position - from) (position - (from + size)) behind)
 
 counted_put : (size at from : ℕ) (new : List ℕ) (segments : List (Place × Segment)) (place : Place) (before : ℕ → ℕ) → AreCounted size from segments before → AreCounted size from (changed_at (with_bytes at new) segments place) before
 counted_put size at from new [] place before counted = tt
@@ -209,7 +209,7 @@ kept_put size from written ahead segments place offset n new readers writer are 
     let k : length (joined segments) - ahead ≡ written - from = omega (arith, laid.ends, laid.starts) in
     let m : length (overwritten (joined segments) (written - from) new) - (ahead - n) ≡ length (take (written - from) (joined segments) ++ new) = omega (arith, laid.ends, laid.starts, room, long, length-overwritten (joined segments) (written - from) new ends, length-append (take (written - from) (joined segments)) new, length-take (written - from) (joined segments)) in
     rw (whole, m, k, ← append_assoc (take (written - from) (joined segments)) new (drop (written - from + length new) (joined segments)))
-        (take_at (take (written - from) (joined segments) ++ new) (drop (written - from + length new) (joined segments)) _ refl)
+    (take_at (take (written - from) (joined segments) ++ new) (drop (written - from + length new) (joined segments)) _ refl)
 
 -- the room fits a machine number
 pub room_fits : (furthest size limit written : ℕ) → furthest ≤ written → written < 2 ^ 62 → size ≤ 65536 → limit ≤ 1024 → (furthest / size + limit) * size < 2 ^ 64

@@ -1,6 +1,5 @@
 -- What a clone answers. This project's own.
-use Rattle.std.specs.Prelude.{◌≡◌, ℕ, ◌+◌, ◌<◌, ◌≤◌, ◌⊎◌, List, [], ◌∷◌, ◌++◌, length, Option, Some, None, Result, Ok, Err}
-use Rattle.nk_base.specs.declared.status.Status.{Status}
+use Rattle.std.specs.Prelude.{◌≡◌, ℕ, ◌⊎◌, [], ◌∷◌, ◌++◌, length, Result, Ok, Err}
 use Rattle.nk_pipe.specs.declared.answer.CloneError.{CloneError}
 use Rattle.nk_pipe.specs.declared.answer.CloneError.TheVariants as clone
 use Rattle.nk_pipe.specs.Pipe.{Reader, reader_at, clone_open}

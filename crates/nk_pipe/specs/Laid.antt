@@ -1,5 +1,5 @@
 -- How a pipe lays its bytes out in segments, and where its cursors stand. No public clause cites this module.
-use Rattle.std.specs.Prelude.{◌≡◌, ℕ, ◌+◌, ◌-◌, ◌<◌, ◌≤◌, ◌&&◌, Bool, true, List, [], ◌∷◌, ◌++◌, length, take, map, nat_lt, Option, Some, None, if◌then◌else◌}
+use Rattle.std.specs.Prelude.{◌≡◌, ℕ, ◌+◌, ◌-◌, ◌≤◌, ◌&&◌, true, List, [], ◌∷◌, ◌++◌, length, take, nat_lt, Option, Some, None, if◌then◌else◌}
 use Rattle.nk_base.specs.declared.status.Status.{Status}
 use Rattle.nk_segments.specs.Places.{Place, place_after, IsLive}
 use Rattle.nk_segments.specs.Segments.{Segment, Segments, raised, lowered, changed_at, changed_from, since, needed, AreSegments, AreHeld, AreBelowEight}

@@ -1,7 +1,7 @@
 -- The pipe model: the list of all bytes written, and for each reader a start, a position and a closing status. There
 -- are no segments, cursors or counts in it. After Firefox's nsPipe3; the room, the answer to a read of a closed reader
 -- and the refusal to clone one are this project's own.
-use Rattle.std.specs.Prelude.{◌≡◌, ℕ, ◌+◌, ◌-◌, ◌*◌, ◌/◌, ◌==◌, ◌||◌, ◌&&◌, Bool, true, false, List, [], ◌∷◌, ◌++◌, length, take, drop, map, max, min, nat_le, nat_lt, slice_get, slice_set, Option, Some, None, Result, Ok, Err, if◌then◌else◌}
+use Rattle.std.specs.Prelude.{ℕ, ◌+◌, ◌-◌, ◌*◌, ◌/◌, ◌==◌, ◌||◌, ◌&&◌, Bool, true, false, List, [], ◌∷◌, ◌++◌, length, take, drop, max, min, nat_le, nat_lt, slice_get, slice_set, Option, Some, None, Result, Ok, Err, if◌then◌else◌}
 use Rattle.nk_base.specs.declared.status.Status.{Status}
 use Rattle.nk_base.specs.Status.{stream_closed}
 use Rattle.nk_pipe.specs.declared.answer.Write.{Write}

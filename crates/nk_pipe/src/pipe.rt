@@ -57,6 +57,7 @@ impl Pipe {
         requires most_limit { limit ≤ 1024 }
         ensures pipe { IfOk result (λ r. Stands r.0 (new_pipe segment limit)) }
         ensures reader { IfOk result (λ r. r.1 ≡ 1) }
+        ensures count { IfOk result (λ r. count r.0 ≡ 0) }
     {
         let cursor = Cursor {
             place: None,
@@ -92,6 +93,7 @@ impl Pipe {
         ensures state { (p : PipeModel) → Stands self.old p → OnOk result (Stands self.new (written_to p.closed bytes.now p)) }
         ensures err { OnErr result (self.new ≡ record self.old { ahead = self.new.ahead }) }
         ensures told { self.old.closed ≡ None → has_open self.old.readers ≡ true }
+        ensures count { count self.new ≤ count self.old + length bytes.now }
     {
         if let Some(status) = self.closed {
             return Ok(Write::Closed(status));
@@ -111,6 +113,7 @@ impl Pipe {
         ensures answer { (p : PipeModel) → Stands self.old p → result ≡ read_answer (numbered p.readers reader) reader (length buffer.old) p }
         ensures state { (p : PipeModel) → Stands self.old p → Stands self.new (read_from (numbered p.readers reader) reader (length buffer.old) p) }
         ensures bytes { (p : PipeModel) → Stands self.old p → let h = handed (numbered p.readers reader) (length buffer.old) p.written in buffer.new ≡ h ++ drop (length h) buffer.old }
+        ensures count { count self.new ≡ count self.old }
     {
         match self.index(reader) {
             Some(i) => Ok(self.read_at(i, buffer)),
@@ -123,6 +126,7 @@ impl Pipe {
         ensures answer { (p : PipeModel) → Stands self.old p → OrMemory (clone_answer (numbered p.readers reader) reader (length p.readers)) result }
         ensures state { (p : PipeModel) → Stands self.old p → OnOk result (Stands self.new (cloned (numbered p.readers reader) p)) }
         ensures err { OnErr result (self.new ≡ self.old) }
+        ensures count { count self.new ≡ count self.old }
     {
         match self.index(reader) {
             Some(i) => self.clone_at(i),
@@ -134,6 +138,7 @@ impl Pipe {
     pub fn close_reader(&mut self, reader: u32, status: Status) -> Result<(), NoReader>
         ensures answer { (p : PipeModel) → Stands self.old p → result ≡ close_answer (numbered p.readers reader) reader }
         ensures state { (p : PipeModel) → Stands self.old p → Stands self.new (without_reader (numbered p.readers reader) reader status p) }
+        ensures count { count self.new ≡ count self.old }
     {
         match self.index(reader) {
             Some(i) => {
@@ -148,7 +153,8 @@ impl Pipe {
 
     /// Closes the pipe from the writer's side: what was written can still be read. The first close is kept.
     pub fn close_writer(&mut self, status: Status)
-        ensures { (p : PipeModel) → Stands self.old p → Stands self.new (without_writer status p) }
+        ensures state { (p : PipeModel) → Stands self.old p → Stands self.new (without_writer status p) }
+        ensures count { count self.new ≡ count self.old }
     {
         self.closed = first_close(self.closed, status);
     }

@@ -1,12 +1,11 @@
 // What is asked of all readers at once. There are at most eight.
 
 ghost use Rattle.std.specs.Prelude.{◌≡◌, ◌≤◌, length};
+ghost use Rattle.nk_pipe.specs.Pipe.{greatest, has_open};
+ghost use Rattle.nk_pipe.specs.Laid.{all_seen, all_reaching, open_count};
 
 use crate::reader::Reader;
 use nk_segments::Place;
-
-ghost use Rattle.nk_pipe.specs.Pipe.{greatest, has_open};
-ghost use Rattle.nk_pipe.specs.Laid.{all_seen, all_reaching, open_count};
 
 /// The greatest position of an open reader.
 pub(crate) fn furthest(readers: &[Reader]) -> u64

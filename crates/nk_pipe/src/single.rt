@@ -99,9 +99,10 @@ impl Pipe {
         if 8 <= made {
             return Err(CloneError::TooManyReaders);
         }
+        let at = reader.position;
         let clone = Reader {
-            start: reader.position,
-            position: reader.position,
+            start: at,
+            position: at,
             closed: None,
             cursor: reader.cursor,
         };

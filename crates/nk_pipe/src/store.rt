@@ -24,7 +24,13 @@ pub(crate) fn copy_out(segments: &Segments, place: Place, offset: u32, buffer: &
 }
 
 /// Puts the first bytes into a segment from an offset on, as many as it takes.
-pub(crate) fn put_in(segments: &mut Segments, place: Place, offset: u32, size: u32, bytes: &[u8]) -> usize
+pub(crate) fn put_in(
+    segments: &mut Segments,
+    place: Place,
+    offset: u32,
+    size: u32,
+    bytes: &[u8],
+) -> usize
     requires live { IsLive segments.old.segments place }
     requires size { size ≡ segments.old.size }
     requires within { offset < size }

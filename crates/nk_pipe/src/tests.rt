@@ -4,29 +4,31 @@ use crate::{CloneError, NoReader, Pipe, Read, Write};
 use nk_base::Status;
 use std::test::Fail;
 
-const TEXT: &[u8; 20] = b"abcdefghijklmnopqrst";
-
 #[test]
 fn two_readers_read_all_bytes_at_their_own_pace(rt: HostRuntime) -> Result<(), Fail> {
+    let text = b"abcdefghijklmnopqrst".as_slice();
     let (mut pipe, one) = Pipe::new(rt.alloc(), 4, 2)?;
     assert_eq!(rt; one, 1);
     assert_eq!(rt; pipe.clone_reader(one), Ok(2));
-    assert_eq!(rt; pipe.write(TEXT), Ok(Write::Wrote(8)));
-    assert_eq!(rt; pipe.write(&TEXT[8..]), Ok(Write::WouldBlock));
+    assert_eq!(rt; pipe.write(text), Ok(Write::Wrote(8)));
+    assert_eq!(rt; pipe.write(&text[8..]), Ok(Write::WouldBlock));
     let mut four = [0; 4];
     assert_eq!(rt; pipe.read_into(1, &mut four), Ok(Read::Read(4)));
-    assert_eq!(rt; pipe.write(&TEXT[8..]), Ok(Write::Wrote(4)));
+    assert_eq!(rt; pipe.write(&text[8..]), Ok(Write::Wrote(4)));
     let mut all = [0; 20];
     assert_eq!(rt; pipe.read_into(1, &mut all), Ok(Read::Read(8)));
-    assert_eq!(rt; pipe.write(&TEXT[12..]), Ok(Write::Wrote(8)));
+    assert_eq!(rt; pipe.write(&text[12..]), Ok(Write::Wrote(8)));
     pipe.close_writer(Status::OK);
     assert_eq!(rt; pipe.read_into(2, &mut all), Ok(Read::Read(20)));
-    assert_eq!(rt; all.as_slice(), TEXT.as_slice());
+    assert_eq!(rt; all.as_slice(), text);
     assert_eq!(rt; pipe.read_into(2, &mut all), Ok(Read::End));
     assert_eq!(rt; pipe.read_into(1, &mut all), Ok(Read::Read(8)));
-    assert_eq!(rt; &all[..8], &TEXT[12..]);
+    assert_eq!(rt; &all[..8], &text[12..]);
     assert_eq!(rt; pipe.read_into(1, &mut all), Ok(Read::End));
-    assert_eq!(rt; (pipe.written(), pipe.position(1), pipe.position(3)), (20, Some(20), None));
+    assert_eq!(rt;
+        (pipe.written(), pipe.position(1), pipe.position(3)),
+        (20, Some(20), None)
+    );
     Ok(())
 }
 
@@ -46,7 +48,10 @@ fn a_closed_pipe_answers_with_the_status_of_the_first_close(rt: HostRuntime) -> 
     assert_eq!(rt; other.write(b"ab"), Ok(Write::Wrote(2)));
     other.close_writer(Status::NET_RESET);
     assert_eq!(rt; other.read_into(one, &mut two), Ok(Read::Read(2)));
-    assert_eq!(rt; other.read_into(one, &mut two), Ok(Read::Failed(Status::NET_RESET)));
+    assert_eq!(rt;
+        other.read_into(one, &mut two),
+        Ok(Read::Failed(Status::NET_RESET))
+    );
     Ok(())
 }
 

@@ -1,5 +1,4 @@
 -- One more reader has reached the new segment.
-use Rattle.std.proofs.Common.{◌≡◌, length, rules, sym, ap}
 use Rattle.nk_pipe.proofs.ReaderLemmas.{reach_next}
 use Rattle.nk_pipe.proofs.readers.all_reach.Goals as goal
 

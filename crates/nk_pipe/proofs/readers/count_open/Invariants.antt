@@ -1,5 +1,5 @@
 -- The count so far and that of the rest give that of all.
-use Rattle.std.proofs.Common.{◌≡◌, ◌+◌, ◌≤◌, drop, length}
+use Rattle.std.proofs.Common.{◌≡◌, ◌+◌, ◌≤◌, drop}
 use Rattle.nk_pipe.specs.Laid.{all_seen, open_count}
 use Rattle.nk_pipe.proofs.readers.count_open.Given as goal
 

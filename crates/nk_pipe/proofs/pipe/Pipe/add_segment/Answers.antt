@@ -1,14 +1,14 @@
 -- A new segment changes nothing of what is kept.
-use Rattle.std.proofs.Common.{◌≡◌, ℕ, ◌+◌, ◌-◌, ◌<◌, ◌≤◌, ◌++◌, List, [], ◌∷◌, length, take, replicate, true, Some, None, Option, refl, sym, ap, ◌∙◌, rules, arith}
+use Rattle.std.proofs.Common.{◌≡◌, ℕ, ◌≤◌, ◌++◌, List, [], ◌∷◌, length, replicate, true, None, refl, ap, ◌∙◌, arith}
 use Rattle.nk_segments.specs.Places.{Place, item_at}
-use Rattle.nk_segments.specs.Segments.{Segment, AreSegments}
+use Rattle.nk_segments.specs.Segments.{AreSegments}
 use Rattle.nk_segments.proofs.SegmentLemmas.{segments-added}
 use Rattle.nk_pipe.specs.declared.reader.Reader.{Reader as Tracked}
 use Rattle.nk_pipe.specs.Pipe.{has_open}
 use Rattle.std.specs.Vec.{with_items}
 use Rattle.std.proofs.lemmas.List.{with_items_is, length-replicate}
 use Rattle.nk_pipe.specs.declared.pipe.Pipe.TheInside.{Inside}
-use Rattle.nk_pipe.specs.Laid.{IsPipe, IsLaid, all_seen, past, open_count, all_reaching}
+use Rattle.nk_pipe.specs.Laid.{IsPipe, all_seen, open_count, all_reaching}
 use Rattle.nk_pipe.proofs.ReaderLemmas.{length_seen, seen_reaching}
 use Rattle.nk_pipe.proofs.WriteLemmas.{few_open, length_reaching}
 use Rattle.nk_pipe.proofs.WholeLemmas.{Adds, adds}
@@ -24,7 +24,7 @@ added : (s : Inside) (place : Place) (n : ℕ) → IsPipe s.segment s.limit s.se
 added s place n is opens fresh counts =
     let few : n ≤ 8 = omega (arith, counts, few_open (all_seen s.readers.items), length_seen s.readers.items, is.few) in
     let are : AreSegments s.segment (s.segments.segments ++ (place, record { bytes = replicate s.segments.size 0; readers = n }) ∷ []) =
-      rw is.sized (segments-added s.segment s.segments.segments place n few fresh is.are) in
+    rw is.sized (segments-added s.segment s.segments.segments place n few fresh is.are) in
     adds s.segment s.limit s.written s.ahead s.segments place (record { bytes = replicate s.segments.size 0; readers = n }) s.readers.items s.writer s.closed is opens are (length-replicate s.segments.size 0 ∙ is.sized) counts
 
 all_moved : (s : Inside) (place : Place) (ws : List Tracked) → ws ≡ all_reaching place s.readers.items → (with_items s.readers ws).items ≡ all_reaching place s.readers.items

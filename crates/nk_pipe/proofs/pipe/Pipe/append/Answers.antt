@@ -1,5 +1,5 @@
 -- Each turn writes the next part of the bytes.
-use Rattle.std.proofs.Common.{◌≡◌, ◌+◌, ◌-◌, ◌≤◌, ◌++◌, length, take, drop, refl, sym, ap, ◌∙◌, arith, append_assoc}
+use Rattle.std.proofs.Common.{◌≡◌, ◌+◌, ◌-◌, ◌≤◌, length, drop, refl, ◌∙◌, arith, append_assoc}
 use Rattle.std.proofs.lemmas.List.{length-take, length-drop}
 use Rattle.nk_pipe.proofs.KeptLemmas.{take_part}
 use Rattle.nk_pipe.proofs.pipe.Pipe.append.Goals as goal

@@ -1,5 +1,5 @@
 -- The first of the bytes are written.
-use Rattle.std.proofs.Common.{◌≡◌, ◌-◌, ◌++◌, ◌<◌, ◌≤◌, length, take}
+use Rattle.std.proofs.Common.{◌≡◌, ◌-◌, ◌++◌, ◌≤◌, length, take}
 use Rattle.nk_pipe.proofs.pipe.Pipe.append.Given as goal
 
 abbrev pub invariant-loop-done : goal.invariant-loop-done

@@ -1,15 +1,12 @@
 -- A clone stands where the original stands.
-use Rattle.std.proofs.Common.{◌≡◌, ℕ, ◌+◌, ◌<◌, ◌≤◌, List, [], ◌∷◌, ◌++◌, length, get_or, true, false, Some, None, Option, Ok, Err, inl, inr, refl, sym, ap, ◌∙◌, rules, arith}
-use Rattle.std.specs.Prelude.{slice_get, slice_set, IfSome, nat_le}
-use Rattle.std.proofs.lemmas.Bool.Decides.{nat_tests}
+use Rattle.std.proofs.Common.{◌≡◌, ℕ, ◌<◌, [], ◌∷◌, ◌++◌, length, Some, None, inl, refl, sym, arith}
+use Rattle.std.specs.Prelude.{slice_get}
 use Rattle.std.proofs.lemmas.Grind.{common_steps}
 use Rattle.std.proofs.lemmas.List.{length_push}
 use Rattle.nk_pipe.specs.declared.pipe.Pipe.TheInside.{Inside}
 use Rattle.nk_pipe.specs.declared.reader.Reader.{Reader as Tracked}
-use Rattle.nk_pipe.specs.Kept.{Kept, OpenAt, count}
-use Rattle.nk_pipe.specs.Laid.{IsPipe, all_seen, past, held_at}
+use Rattle.nk_pipe.specs.Laid.{IsPipe, all_seen, past}
 use Rattle.nk_pipe.proofs.ReaderLemmas.{read_get, seen_get, seen-append, length_seen, open_get}
-use Rattle.nk_pipe.proofs.LaidLemmas.{Loses}
 use Rattle.nk_pipe.proofs.PipeLemmas.{Reading, reading, pipe_after}
 use Rattle.nk_pipe.proofs.CloseLemmas.{refused, too_many, may_clone, clone_reader, cloned_reader, may_hold, joined-held, has_open-append}
 use Rattle.nk_pipe.proofs.pipe.Pipe.clone_at.Goals as goal
@@ -35,7 +32,7 @@ pub returns-then-made-ge8 : goal.returns-then-made-ge8
 returns-then-made-ge8 c =
     let get = read_get c.self.inside.readers.items c.args.i c.index-reader.result.now (below c.self.inside c.args.i (rw (← c.self.view_is) at c.requires)) c.index-reader.ensures in
     rw (← c.self.view_is, seen_get c.self.inside.readers.items c.args.i c.index-reader.result.now get)
-        (refl, inl (sym (too_many c.index-reader.result.now.closed (length (all_seen c.self.inside.readers.items)) c.in_default.is (omega (arith, length_seen c.self.inside.readers.items, c.self.inside.readers.ok.0)))))
+    (refl, inl (sym (too_many c.index-reader.result.now.closed (length (all_seen c.self.inside.readers.items)) c.in_default.is (omega (arith, length_seen c.self.inside.readers.items, c.self.inside.readers.ok.0)))))
 
 pub hold-requires : goal.hold-requires
 hold-requires c =
@@ -53,8 +50,8 @@ invariant_of-self-2 c =
     let few : length c.self.inside.readers.items < 8 = omega (arith, c.self.inside.readers.ok.0) in
     let l = cloned_reader c.self.inside.segment _ c.self.inside.written c.self.inside.ahead c.self.inside.segments.segments c.self.inside.readers.items c.self.inside.writer c.args.i c.index-reader.result.now c.self.invariant.are f few in
     rw (c.hold.ensures, pushed c)
-        (pipe_after c.self.inside.segment c.self.inside.limit c.self.inside.written c.self.inside.ahead c.self.inside.segments _ c.self.inside.readers.items _ c.self.inside.writer c.self.inside.closed c.self.inside.closed c.self.invariant l (omega (arith, few, length_push c.self.inside.readers.items (clone_reader c.index-reader.result.now)))
-            (λ _. has_open-append c.self.inside.readers.items (clone_reader c.index-reader.result.now) refl))
+    (pipe_after c.self.inside.segment c.self.inside.limit c.self.inside.written c.self.inside.ahead c.self.inside.segments _ c.self.inside.readers.items _ c.self.inside.writer c.self.inside.closed c.self.inside.closed c.self.invariant l (omega (arith, few, length_push c.self.inside.readers.items (clone_reader c.index-reader.result.now)))
+    (λ _. has_open-append c.self.inside.readers.items (clone_reader c.index-reader.result.now) refl))
 
 pub returns : goal.returns
 returns c =

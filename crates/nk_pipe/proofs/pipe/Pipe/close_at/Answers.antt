@@ -1,11 +1,11 @@
 -- A close of a reader gives back what it alone needed.
-use Rattle.std.proofs.Common.{◌≡◌, ℕ, ◌+◌, ◌<◌, ◌≤◌, List, length, get_or, true, Some, None, Option, refl, sym, ap, ◌∙◌, rules, arith}
-use Rattle.std.specs.Prelude.{slice_get, slice_set, IfSome}
+use Rattle.std.proofs.Common.{◌≡◌, ℕ, get_or, refl, arith}
+use Rattle.std.specs.Prelude.{slice_set}
 use Rattle.nk_base.specs.declared.status.Status.{Status}
 use Rattle.nk_pipe.specs.declared.pipe.Pipe.TheInside.{Inside}
 use Rattle.nk_pipe.specs.declared.reader.Reader.{Reader as Tracked}
-use Rattle.nk_pipe.specs.Kept.{Kept, OpenAt, count}
-use Rattle.nk_pipe.specs.Pipe.{has_open, kept_status, first_close}
+use Rattle.nk_pipe.specs.Kept.{OpenAt}
+use Rattle.nk_pipe.specs.Pipe.{has_open}
 use Rattle.nk_pipe.specs.Laid.{IsPipe, all_seen, past, released_at}
 use Rattle.nk_pipe.proofs.ReaderLemmas.{read_get, seen_get, seen-set}
 use Rattle.nk_pipe.proofs.LaidLemmas.{Loses}
@@ -43,8 +43,8 @@ invariant_of-self c =
     let l = lost c.self.inside c.args.i c.index-reader.result.now c.kept_status.result c.self.invariant f in
     let r' : Tracked = closed_reader c.index-reader.result.now c.kept_status.result in
     rw (c.release.ensures, c.close_of_reader-self-inside.ensures, c.any_open.ensures, c.deref.ensures.value)
-        (pipe_after c.self.inside.segment c.self.inside.limit c.self.inside.written c.self.inside.ahead c.self.inside.segments _ c.self.inside.readers.items _ c.self.inside.writer c.self.inside.closed _ c.self.invariant l (omega (arith, c.self.invariant.few, length-slice_set c.self.inside.readers.items c.args.i r'))
-            (told_by (has_open (all_seen (slice_set c.self.inside.readers.items c.args.i r'))) c.self.inside.closed c.args.status))
+    (pipe_after c.self.inside.segment c.self.inside.limit c.self.inside.written c.self.inside.ahead c.self.inside.segments _ c.self.inside.readers.items _ c.self.inside.writer c.self.inside.closed _ c.self.invariant l (omega (arith, c.self.invariant.few, length-slice_set c.self.inside.readers.items c.args.i r'))
+    (told_by (has_open (all_seen (slice_set c.self.inside.readers.items c.args.i r'))) c.self.inside.closed c.args.status))
 
 pub returns : goal.returns
 returns c =

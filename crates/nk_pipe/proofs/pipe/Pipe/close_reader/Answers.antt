@@ -1,8 +1,8 @@
 -- The open reader of the number is closed; a closed one stays as it is.
-use Rattle.std.proofs.Common.{◌≡◌, refl, sym, ap, ◌∙◌, arith, rules, true, false}
-use Rattle.nk_pipe.specs.Pipe.{Pipe, without_reader, numbered, is_open, close_answer}
+use Rattle.std.proofs.Common.{◌≡◌, refl, sym, ◌∙◌, true}
+use Rattle.nk_pipe.specs.Pipe.{without_reader, numbered, is_open, close_answer}
 use Rattle.nk_pipe.specs.Kept.{Stands}
-use Rattle.nk_pipe.proofs.StandsLemmas.{of_whole, named, close_whole}
+use Rattle.nk_pipe.proofs.StandsLemmas.{of_whole, named, close_whole, count_kept, close_writes_none}
 use Rattle.nk_pipe.proofs.pipe.Pipe.close_reader.Goals as goal
 
 pub returns-then-is_open-clause-state : goal.returns-then-is_open-clause-state
@@ -16,3 +16,7 @@ pub returns-else-is_open-clause-answer : goal.returns-else-is_open-clause-answer
 returns-else-is_open-clause-answer c =
     let r = named c.args.self.now.readers c.args.reader c.in-Some.i c.in-Some.ensures in
     of_whole c.args.self.now (λ p. _ ≡ close_answer (numbered p.readers c.args.reader) c.args.reader) (λ gone long. rw r.2 refl)
+
+pub returns-then-is_open-clause-count : goal.returns-then-is_open-clause-count
+returns-then-is_open-clause-count c =
+    count_kept c.args.self.now c.close_at.new.self (λ p. without_reader (numbered p.readers c.args.reader) c.args.reader c.args.status p) (λ p. close_writes_none (numbered p.readers c.args.reader) c.args.reader c.args.status p) (returns-then-is_open-clause-state c)

@@ -1,15 +1,14 @@
 -- The writer stands in a segment where there is room ahead, and moves on in it or behind it.
-use Rattle.std.proofs.Common.{◌≡◌, ℕ, ◌+◌, ◌-◌, ◌<◌, ◌≤◌, ◌++◌, List, length, take, true, Some, None, Option, refl, sym, ap, ◌∙◌, rules, arith}
+use Rattle.std.proofs.Common.{◌≡◌, ℕ, ◌+◌, ◌≤◌, List, length, take, true, Some, Option, refl, sym, ap, ◌∙◌, arith}
 use Rattle.std.proofs.lemmas.List.{length-take}
 use Rattle.nk_segments.specs.Places.{Place}
-use Rattle.nk_segments.specs.Segments.{with_bytes, changed_at}
-use Rattle.nk_segments.proofs.SegmentLemmas.{segments-put}
+use Rattle.nk_segments.specs.Segments.{with_bytes}
 use Rattle.nk_pipe.specs.declared.pipe.Pipe.TheInside.{Inside}
 use Rattle.nk_pipe.specs.declared.cursor.Cursor.{Cursor}
 use Rattle.nk_pipe.specs.Pipe.{has_open}
-use Rattle.nk_pipe.specs.Laid.{IsPipe, IsLaid, all_seen, past, joined, filled, kept_bytes}
+use Rattle.nk_pipe.specs.Laid.{IsPipe, IsLaid, all_seen, past}
 use Rattle.nk_pipe.proofs.CursorLemmas.{IsAt, at_small, at_live, cursor_at, cursor_end, end_behind}
-use Rattle.nk_pipe.proofs.PipeLemmas.{past_is, live-at}
+use Rattle.nk_pipe.proofs.PipeLemmas.{live-at}
 use Rattle.nk_pipe.proofs.WholeLemmas.{Puts, puts}
 use Rattle.nk_pipe.proofs.pipe.Pipe.fill.Goals as goal
 

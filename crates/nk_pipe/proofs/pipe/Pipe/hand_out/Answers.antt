@@ -1,9 +1,7 @@
 -- Each turn hands out the next part of the bytes.
-use Rattle.std.proofs.Common.{◌≡◌, ℕ, ◌+◌, ◌-◌, ◌≤◌, ◌++◌, List, Some, None, length, take, drop, refl, sym, ap, ◌∙◌, rules, arith}
-use Rattle.std.specs.Prelude.{slice_get, slice_set, IfSome}
+use Rattle.std.proofs.Common.{◌≡◌, ◌+◌, ◌-◌, ◌≤◌, length, take, drop, refl, rules, arith}
 use Rattle.std.proofs.lemmas.List.{length-take, length-drop, places}
-use Rattle.nk_pipe.specs.Pipe.{Reader, moved}
-use Rattle.nk_pipe.specs.Kept.{Kept, Forgets, OpenAt, count}
+use Rattle.nk_pipe.specs.Kept.{count}
 use Rattle.nk_pipe.proofs.KeptLemmas.{open_reader, moved_there, count_same, forgets_none, forgets_more, next_part}
 use Rattle.nk_pipe.proofs.pipe.Pipe.hand_out.Goals as goal
 

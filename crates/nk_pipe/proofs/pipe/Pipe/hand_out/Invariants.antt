@@ -1,5 +1,5 @@
 -- The first bytes of the buffer are handed out, and the reader has moved so far.
-use Rattle.std.proofs.Common.{◌≡◌, ◌-◌, ◌++◌, ◌<◌, ◌≤◌, length, take, drop}
+use Rattle.std.proofs.Common.{◌≡◌, ◌-◌, ◌≤◌, length, take, drop}
 use Rattle.std.specs.Prelude.{IfSome, slice_get, slice_set}
 use Rattle.nk_pipe.specs.Pipe.{moved}
 use Rattle.nk_pipe.specs.Kept.{Forgets}

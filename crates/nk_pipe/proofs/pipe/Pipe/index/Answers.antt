@@ -1,5 +1,5 @@
 -- Readers are numbered from 1.
-use Rattle.std.proofs.Common.{◌≡◌, ◌+◌, ◌<◌, ◌≤◌, length, arith}
+use Rattle.std.proofs.Common.{arith}
 use Rattle.nk_pipe.specs.Laid.{all_seen}
 use Rattle.nk_pipe.proofs.ReaderLemmas.{numbered_past, length_seen}
 use Rattle.nk_pipe.proofs.pipe.Pipe.index.Goals as goal

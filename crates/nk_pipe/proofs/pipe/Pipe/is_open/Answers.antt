@@ -1,6 +1,5 @@
 -- A reader without a closing status is open.
-use Rattle.std.proofs.Common.{◌≡◌, ◌<◌, length, refl, sym, ap, ◌∙◌, arith}
-use Rattle.nk_pipe.specs.Laid.{all_seen}
+use Rattle.std.proofs.Common.{◌<◌, length, arith}
 use Rattle.nk_pipe.proofs.ReaderLemmas.{read_get, seen_get, length_seen}
 use Rattle.nk_pipe.proofs.StandsLemmas.{none_open}
 use Rattle.nk_pipe.proofs.pipe.Pipe.is_open.Goals as goal

@@ -1,6 +1,5 @@
 -- Only the room has grown.
-use Rattle.std.proofs.Common.{◌≡◌, ◌-◌, ◌<◌, ◌≤◌, ◌^◌, true}
-use Rattle.nk_pipe.specs.Pipe.{has_open}
+use Rattle.std.proofs.Common.{◌≡◌, ◌-◌}
 use Rattle.nk_pipe.proofs.pipe.Pipe.make_room.Given as goal
 
 abbrev pub invariant-loop-self : goal.invariant-loop-self

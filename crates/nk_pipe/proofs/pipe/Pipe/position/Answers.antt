@@ -1,6 +1,6 @@
 -- The reader of the number has its position.
-use Rattle.std.proofs.Common.{◌≡◌, ◌<◌, length, refl, sym, ap, ◌∙◌, arith, Some, Option, ℕ}
-use Rattle.nk_pipe.specs.Pipe.{Pipe, numbered, position_of}
+use Rattle.std.proofs.Common.{◌≡◌, ◌<◌, length, refl, ◌∙◌, arith, Some}
+use Rattle.nk_pipe.specs.Pipe.{numbered, position_of}
 use Rattle.nk_pipe.specs.Laid.{all_seen}
 use Rattle.nk_pipe.specs.contracts.pipe.Pipe.{the_view}
 use Rattle.nk_pipe.proofs.ReaderLemmas.{read_get, seen_get, length_seen, numbered_at}

@@ -1,5 +1,5 @@
 -- The place of the furthest reader is within the written bytes.
-use Rattle.std.proofs.Common.{◌≡◌, ℕ, ◌+◌, ◌-◌, ◌*◌, ◌/◌, ◌<◌, ◌≤◌, ◌^◌, refl, rules, arith, sym, ap, ◌∙◌}
+use Rattle.std.proofs.Common.{◌≡◌, ◌+◌, ◌-◌, ◌*◌, ◌/◌, refl, arith, ◌∙◌}
 use Rattle.nk_pipe.specs.Pipe.{greatest}
 use Rattle.nk_pipe.specs.Laid.{all_seen, past}
 use Rattle.nk_pipe.proofs.PipeLemmas.{count_is}
@@ -18,5 +18,5 @@ returns-clause-few c =
     let within = greatest_within c.self.inside.segment (past c.self.inside.segments.segments c.self.inside.written c.self.inside.ahead) c.self.inside.written c.self.inside.segments.segments c.self.inside.readers.items (λ opens. (c.self.invariant.laid opens).placed) in
     let few = room_small (greatest (all_seen c.self.inside.readers.items)) c.self.inside.segment c.self.inside.limit c.self.inside.written within c.self.invariant.most c.self.invariant.most_limit in
     let same : c.saturating_sub.result ≡ (greatest (all_seen c.self.inside.readers.items) / c.self.inside.segment + c.self.inside.limit) * c.self.inside.segment - c.self.inside.written =
-      c.saturating_sub.ensures ∙ rw (c.furthest.ensures, c.deref.ensures.value, c.from-segment.ensures, c.from-limit.ensures) refl in
+    c.saturating_sub.ensures ∙ rw (c.furthest.ensures, c.deref.ensures.value, c.from-segment.ensures, c.from-limit.ensures) refl in
     rw same few

@@ -1,15 +1,12 @@
 -- An open reader with bytes left stands in a segment, and moves on in it or to the next.
-use Rattle.std.proofs.Common.{◌≡◌, ℕ, ◌+◌, ◌-◌, ◌<◌, ◌≤◌, ◌^◌, ◌++◌, List, length, take, drop, get_or, true, Some, None, refl, sym, ap, ◌∙◌, rules, arith}
+use Rattle.std.proofs.Common.{◌≡◌, ℕ, ◌+◌, ◌-◌, ◌≤◌, ◌++◌, length, drop, get_or, Some, refl, ap, ◌∙◌, arith}
 use Rattle.std.specs.Prelude.{slice_get, slice_set, IfSome}
 use Rattle.std.proofs.lemmas.List.{length-take}
-use Rattle.nk_segments.specs.Places.{Place, item_at}
-use Rattle.nk_segments.specs.Segments.{Segment}
-use Rattle.nk_segments.proofs.Onward.{held_here}
+use Rattle.nk_segments.specs.Places.{Place}
 use Rattle.nk_pipe.specs.declared.pipe.Pipe.TheInside.{Inside}
 use Rattle.nk_pipe.specs.declared.reader.Reader.{Reader as Tracked}
-use Rattle.nk_pipe.specs.Kept.{Kept, OpenAt, count}
-use Rattle.nk_pipe.specs.Pipe.{moved}
-use Rattle.nk_pipe.specs.Laid.{IsPipe, all_seen, past, joined, filled, kept_bytes, left_at, seen}
+use Rattle.nk_pipe.specs.Kept.{OpenAt, count}
+use Rattle.nk_pipe.specs.Laid.{IsPipe, all_seen, past, joined, filled, left_at}
 use Rattle.nk_pipe.specs.contracts.pipe.Pipe.{the_view}
 use Rattle.nk_pipe.proofs.ReaderLemmas.{read_get, seen_get, seen-set}
 use Rattle.nk_pipe.proofs.CursorLemmas.{IsAt, at_small, at_live, at_bytes}
@@ -89,8 +86,8 @@ invariant_of-self c =
     let l = lost c.self.inside c.args.i (length c.args.buffer.now) c.index-reader.result.now c.in-Some.place c.copy_out-n.result c.self.invariant f c.in-Some.is c.copy_out-n.ensures.fits c.copy_out-n.ensures.most in
     let r' : Tracked = stepped c.self.inside.segment c.self.inside.segments.segments c.index-reader.result.now c.in-Some.place c.copy_out-n.result in
     rw (c.passing-cursor.ensures.segments, c.passing-cursor.ensures.cursor)
-        (pipe_after c.self.inside.segment c.self.inside.limit c.self.inside.written c.self.inside.ahead c.self.inside.segments _ c.self.inside.readers.items _ c.self.inside.writer c.self.inside.closed c.self.inside.closed c.self.invariant l (omega (arith, c.self.invariant.few, length-slice_set c.self.inside.readers.items c.args.i r'))
-            (λ _. has_open-set c.self.inside.readers.items c.args.i c.index-reader.result.now r' f.reading.get (rw f.reading.opens refl)))
+    (pipe_after c.self.inside.segment c.self.inside.limit c.self.inside.written c.self.inside.ahead c.self.inside.segments _ c.self.inside.readers.items _ c.self.inside.writer c.self.inside.closed c.self.inside.closed c.self.invariant l (omega (arith, c.self.invariant.few, length-slice_set c.self.inside.readers.items c.args.i r'))
+    (λ _. has_open-set c.self.inside.readers.items c.args.i c.index-reader.result.now r' f.reading.get (rw f.reading.opens refl)))
 
 pub returns-clause-handed : goal.returns-clause-handed
 returns-clause-handed c =
@@ -103,7 +100,7 @@ returns-clause-handed c =
     let short = length-take (filled c.self.inside.segments.segments c.self.inside.ahead) (joined c.self.inside.segments.segments) in
     let same = take_kept c.self.inside.ahead (c.index-reader.result.now.position - past c.self.inside.segments.segments c.self.inside.written c.self.inside.ahead) c.copy_out-n.result c.self.inside.segments.segments (omega (arith, f.left, f.reading.placed.0, kept, short, c.copy_out-n.ensures.most)) in
     rw (← c.self.view_is, seen_get c.self.inside.readers.items c.args.i c.index-reader.result.now f.reading.get)
-        (copied ∙ ap (λ xs. xs ++ drop c.copy_out-n.result c.args.buffer.now) (bytes ∙ same))
+    (copied ∙ ap (λ xs. xs ++ drop c.copy_out-n.result c.args.buffer.now) (bytes ∙ same))
 
 pub returns-clause-moved : goal.returns-clause-moved
 returns-clause-moved c =

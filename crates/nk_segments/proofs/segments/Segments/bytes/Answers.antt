@@ -1,5 +1,5 @@
 -- Each segment has its size.
-use Rattle.std.proofs.Common.{◌≡◌, length, ap, ◌∙◌}
+use Rattle.std.proofs.Common.{ap, ◌∙◌}
 use Rattle.nk_segments.specs.Segments.{Segments}
 use Rattle.nk_segments.proofs.SegmentLemmas.{segment_size}
 use Rattle.nk_segments.proofs.segments.Segments.bytes.Goals as goal
