@@ -1,0 +1,15 @@
+pub mod AnyWire
+pub mod BackWire
+pub mod Firsts
+mod HeaderLoop
+pub mod Heads
+pub mod MainWire
+pub mod Numbers
+pub mod Openings
+pub mod Ranges
+pub mod Rows
+pub mod Spells
+pub mod Starts
+pub mod Steps
+pub mod UpWire
+mod WorkedFrames

@@ -1,0 +1,5 @@
+pub mod Layouts
+pub mod Kinds
+pub mod Spelling
+pub mod Reading
+pub mod Streams

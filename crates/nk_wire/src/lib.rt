@@ -1,0 +1,23 @@
+// The bytes that messages travel as: a frame is a length and the rest, a kind and the fields in order, all numbers
+// little-endian. Encoders write the one spelling of a message, decoders read it back and name the first fault, and
+// `Frames` finds the frames in a stream that comes in any pieces. In the place of the serialization that Firefox's IPDL
+// makes for PHttpChannel and PHttpBackgroundChannel; the format is this project's own.
+#![tactic(auto)]
+
+mod cursor;
+mod decode;
+mod error;
+mod frames;
+mod kind;
+mod look;
+mod message;
+mod read_any;
+mod read_back;
+mod read_main;
+mod read_up;
+mod start;
+
+pub use decode::{decode_any, decode_back, decode_main, decode_up};
+pub use error::{DecodeError, FrameCause, FrameError};
+pub use frames::Frames;
+pub use message::AnyMsg;
