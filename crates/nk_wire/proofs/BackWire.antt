@@ -55,7 +55,7 @@ stop-found m text s =
 
 -- a stop with trailers
 
-some_spelled : (hop : ℕ) (status : Status) (fs : List Field) → 0 < length fs → spelling.stop hop status fs ≡ 0xf2 ∷ 0x13 ∷ (little U32 hop ++ little U32 status.0 ++ fields fs)
+pub some_spelled : (hop : ℕ) (status : Status) (fs : List Field) → 0 < length fs → spelling.stop hop status fs ≡ 0xf2 ∷ 0x13 ∷ (little U32 hop ++ little U32 status.0 ++ fields fs)
 some_spelled hop status [] some = absurd (omega arith)
 some_spelled hop status (f ∷ fs) some = refl
 

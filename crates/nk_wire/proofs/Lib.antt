@@ -13,3 +13,4 @@ pub mod Starts
 pub mod Steps
 pub mod UpWire
 mod WorkedFrames
+pub mod Written

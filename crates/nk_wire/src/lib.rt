@@ -6,7 +6,9 @@
 
 mod cursor;
 mod decode;
+mod encode;
 mod error;
+mod frame;
 mod frames;
 mod kind;
 mod look;
@@ -16,8 +18,14 @@ mod read_back;
 mod read_main;
 mod read_up;
 mod start;
+mod write_back;
+mod write_main;
+mod write_start;
+mod write_up;
 
 pub use decode::{decode_any, decode_back, decode_main, decode_up};
+pub use encode::{encode_back, encode_main, encode_up};
 pub use error::{DecodeError, FrameCause, FrameError};
+pub use frame::Frame;
 pub use frames::Frames;
 pub use message::AnyMsg;
