@@ -1,6 +1,6 @@
 // A whole frame, and how one is written.
 
-ghost use Rattle.std.specs.Prelude.{◌≡◌, ◌++◌, ◌≤◌, ◌+◌, ◌*◌, ◌∷◌, [], length, true, IfOk, OnOk};
+ghost use Rattle.std.specs.Prelude.{◌≡◌, ◌++◌, ◌≤◌, ◌<◌, ◌+◌, ◌*◌, ◌^◌, ◌∷◌, [], length, true, IfOk, OnOk};
 ghost use Rattle.std.specs.List.{flat_map};
 ghost use Rattle.nk_base.specs.Fields.{are_good_fields, is_good_field};
 ghost use Rattle.nk_wire.specs.Layouts.{little, U16, U32, U64};
@@ -71,14 +71,16 @@ impl Frame {
 
     /// Writes a number of 4 bytes at the end.
     pub(crate) fn u32(&mut self, n: u32) -> Result<(), Memory>
-        ensures { OnOk result (self.new ≡ self.old ++ little U32 n) }
+        ensures written { OnOk result (self.new ≡ self.old ++ little U32 n) }
+        ensures fits { n < 2 ^ 32 }
     {
         self.put(&n.to_le_bytes())
     }
 
     /// Writes a number of 8 bytes at the end.
     pub(crate) fn u64(&mut self, n: u64) -> Result<(), Memory>
-        ensures { OnOk result (self.new ≡ self.old ++ little U64 n) }
+        ensures written { OnOk result (self.new ≡ self.old ++ little U64 n) }
+        ensures fits { n < 2 ^ 64 }
     {
         self.put(&n.to_le_bytes())
     }

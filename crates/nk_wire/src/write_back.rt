@@ -1,11 +1,11 @@
 // The messages of the background lane, written to the rest of a frame.
 
-ghost use Rattle.std.specs.Prelude.{◌≡◌, ◌++◌, ◌≤◌, ℕ, true, length, OnOk};
+ghost use Rattle.std.specs.Prelude.{◌≡◌, ◌++◌, ◌≤◌, ◌<◌, ◌^◌, ℕ, true, length, OnOk};
 ghost use Rattle.nk_base.specs.declared.status.Status.{Status as SpecStatus};
 ghost use Rattle.nk_base.specs.declared.message.BackMsg.TheVariants.{Bytes as SpecBytes};
 ghost use Rattle.nk_base.specs.Fields.{are_good_fields};
 ghost use Rattle.nk_base.specs.Ranges.{IsBackInRange};
-ghost use Rattle.nk_wire.specs.Spelling.{stop, back_rest};
+ghost use Rattle.nk_wire.specs.Spelling.{BackFits, HasFourBytes, stop, back_rest};
 
 use crate::frame::{Frame, headers_size};
 use crate::kind;
@@ -43,7 +43,8 @@ pub fn size(m: &BackMsg) -> u32
 fn stop(out: &mut Frame, hop: u32, status: Status, trailers: &Fields) -> Result<(), Memory>
     requires count { length trailers.now ≤ 64 }
     requires good { are_good_fields trailers.now ≡ true }
-    ensures { OnOk result (out.new ≡ out.old ++ stop hop status trailers.now) }
+    ensures written { OnOk result (out.new ≡ out.old ++ stop hop status trailers.now) }
+    ensures fits { OnOk result (HasFourBytes status) }
 {
     if trailers.len() == 0 {
         out.kind(kind::STOP)?;
@@ -60,7 +61,8 @@ fn stop(out: &mut Frame, hop: u32, status: Status, trailers: &Fields) -> Result<
 
 /// Writes the rest of a piece's message at the end.
 fn bytes(out: &mut Frame, hop: u32, status: Status, offset: u64, piece: &Piece) -> Result<(), Memory>
-    ensures { OnOk result (out.new ≡ out.old ++ back_rest (SpecBytes hop status offset piece.now)) }
+    ensures written { OnOk result (out.new ≡ out.old ++ back_rest (SpecBytes hop status offset piece.now)) }
+    ensures fits { OnOk result (HasFourBytes status × (offset < 2 ^ 64)) }
 {
     out.kind(kind::BYTES)?;
     out.u32(hop)?;
@@ -74,7 +76,8 @@ fn bytes(out: &mut Frame, hop: u32, status: Status, offset: u64, piece: &Piece) 
 /// Writes the rest at the end.
 pub fn write(out: &mut Frame, m: &BackMsg) -> Result<(), Memory>
     requires { IsBackInRange m.now }
-    ensures { OnOk result (out.new ≡ out.old ++ back_rest m.now) }
+    ensures written { OnOk result (out.new ≡ out.old ++ back_rest m.now) }
+    ensures fits { OnOk result (BackFits m.now) }
 {
     match m {
         BackMsg::StartSent { hop } => {

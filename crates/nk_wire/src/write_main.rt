@@ -2,7 +2,7 @@
 
 ghost use Rattle.std.specs.Prelude.{◌≡◌, ◌++◌, ◌≤◌, length, OnOk};
 ghost use Rattle.nk_base.specs.Ranges.{IsMainInRange};
-ghost use Rattle.nk_wire.specs.Spelling.{main_rest};
+ghost use Rattle.nk_wire.specs.Spelling.{MainFits, main_rest};
 
 use crate::frame::Frame;
 use crate::kind;
@@ -26,7 +26,8 @@ pub fn size(m: &MainMsg) -> u32
 /// Writes the rest at the end.
 pub fn write(out: &mut Frame, m: &MainMsg) -> Result<(), Memory>
     requires { IsMainInRange m.now }
-    ensures { OnOk result (out.new ≡ out.old ++ main_rest m.now) }
+    ensures written { OnOk result (out.new ≡ out.old ++ main_rest m.now) }
+    ensures fits { OnOk result (MainFits m.now) }
 {
     match m {
         MainMsg::Start { hop, status, head } => {

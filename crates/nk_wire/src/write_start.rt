@@ -3,7 +3,7 @@
 ghost use Rattle.std.specs.Prelude.{◌≡◌, ◌++◌, ◌≤◌, ◌+◌, length, OnOk};
 ghost use Rattle.nk_base.specs.Heads.{IsGoodHead};
 ghost use Rattle.std.specs.List.{flat_map};
-ghost use Rattle.nk_wire.specs.Spelling.{field, start};
+ghost use Rattle.nk_wire.specs.Spelling.{HasFourBytes, field, start};
 
 use crate::frame::{Frame, headers_size};
 use nk_base::{Head, Memory, Status};
@@ -20,7 +20,8 @@ pub fn size(head: &Head) -> u32
 /// Writes the fields of a start at the end.
 pub fn write(out: &mut Frame, hop: u32, status: Status, head: &Head) -> Result<(), Memory>
     requires { IsGoodHead head.now }
-    ensures { OnOk result (out.new ≡ out.old ++ start hop status head.now) }
+    ensures written { OnOk result (out.new ≡ out.old ++ start hop status head.now) }
+    ensures fits { OnOk result (HasFourBytes status) }
 {
     out.u32(hop)?;
     out.u32(status.0)?;

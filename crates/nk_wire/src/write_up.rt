@@ -1,7 +1,7 @@
 // The messages of the up lane, written to the rest of a frame.
 
 ghost use Rattle.std.specs.Prelude.{◌≡◌, ◌++◌, ◌≤◌, length, OnOk};
-ghost use Rattle.nk_wire.specs.Spelling.{up_rest};
+ghost use Rattle.nk_wire.specs.Spelling.{UpFits, up_rest};
 
 use crate::frame::Frame;
 use crate::kind;
@@ -21,7 +21,8 @@ pub fn size(m: &UpMsg) -> u32
 
 /// Writes the rest at the end.
 pub fn write(out: &mut Frame, m: &UpMsg) -> Result<(), Memory>
-    ensures { OnOk result (out.new ≡ out.old ++ up_rest m.now) }
+    ensures written { OnOk result (out.new ≡ out.old ++ up_rest m.now) }
+    ensures fits { OnOk result (UpFits m.now) }
 {
     match m {
         UpMsg::Open => out.kind(kind::OPEN),
