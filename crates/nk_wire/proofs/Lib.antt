@@ -1,5 +1,7 @@
 pub mod AnyWire
 pub mod BackWire
+pub mod Facts
+pub mod FirstLaws
 pub mod Firsts
 mod HeaderLoop
 pub mod Heads
@@ -8,6 +10,7 @@ pub mod Numbers
 pub mod Openings
 pub mod Ranges
 pub mod Rows
+pub mod Sizes
 pub mod Spells
 pub mod Starts
 pub mod Steps

@@ -38,10 +38,10 @@ header_at-takes p q f are h =
 
 -- the lengths of a good header field
 
-name_length-good : (name : List ℕ) → is_good_name name ≡ true → is_name_length (length name) ≡ true
+pub name_length-good : (name : List ℕ) → is_good_name name ≡ true → is_name_length (length name) ≡ true
 name_length-good name h = left_of (is_name_length (length name)) (list_all is_name_byte name) h
 
-value_length-good : (value : List ℕ) → is_good_value value ≡ true → is_value_length (length value) ≡ true
+pub value_length-good : (value : List ℕ) → is_good_value value ≡ true → is_value_length (length value) ≡ true
 value_length-good value h =
     let a = left_of (is_value_length (length value) && list_all is_value_byte value && not (is_space (slice_get value 0))) (not (is_space (slice_get value (length value - 1)))) h in
     left_of (is_value_length (length value)) (list_all is_value_byte value) (left_of (is_value_length (length value) && list_all is_value_byte value) (not (is_space (slice_get value 0))) a)

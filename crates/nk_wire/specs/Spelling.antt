@@ -107,6 +107,20 @@ SpellsAny (any.Main m) rest = SpellsMain m rest
 SpellsAny (any.Back m) rest = SpellsBack m rest
 SpellsAny (any.Up m) rest = SpellsUp m rest
 
+abbrev pub IsAnyInRange : AnyMsg → Type 0
+IsAnyInRange (any.Main m) = IsMainInRange m
+IsAnyInRange (any.Back m) = IsBackInRange m
+IsAnyInRange (any.Up m) = IsUpInRange m
+
+abbrev pub AnyFits : AnyMsg → Type 0
+AnyFits (any.Main m) = MainFits m
+AnyFits (any.Back m) = BackFits m
+AnyFits (any.Up m) = UpFits m
+
 -- a frame: the length of the rest, and the rest
 abbrev pub frame : List ℕ → List ℕ
 frame rest = little U32 (length rest) ++ rest
+
+-- the frame of a message, of whose lane this is the wire
+abbrev pub IsFrameOf : {M : Type 0} → (M → List ℕ → Type 0) → M → List ℕ → Type 0
+IsFrameOf spells m bytes = (rest : List ℕ) × spells m rest × (bytes ≡ frame rest)

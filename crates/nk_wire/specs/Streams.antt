@@ -1,5 +1,5 @@
 -- A stream of frames, which comes in any pieces. This project's own.
-use Rattle.std.specs.Prelude.{ℕ, ◌≡◌, ◌≢◌, ◌<◌, ◌≤◌, ◌+◌, ◌^◌, ◌⊎◌, Bool, if◌then◌else◌, nat_lt, List, [], ◌∷◌, ◌++◌, length, take, drop, Option, Some, None, is_some, Result, Ok, Err}
+use Rattle.std.specs.Prelude.{ℕ, ◌≡◌, ◌<◌, ◌≤◌, ◌+◌, ◌^◌, ◌⊎◌, Bool, if◌then◌else◌, nat_lt, List, [], ◌∷◌, ◌++◌, length, take, drop, Option, Some, None, is_some, Result, Ok, Err}
 use Rattle.nk_wire.specs.declared.error.DecodeError.{DecodeError}
 use Rattle.nk_wire.specs.declared.error.DecodeError.TheVariants as error
 use Rattle.nk_wire.specs.declared.error.FrameCause.{FrameCause}
@@ -52,9 +52,10 @@ first bytes =
 abbrev pub IsRest : List ℕ → Type 0
 IsRest rest = (1 ≤ length rest) × (length rest ≤ 528653)
 
--- a proper prefix of a frame whose rest is any in range
+-- a proper prefix of a frame whose rest is any in range; or the length is not there
 abbrev pub IsPart : List ℕ → Type 0
-IsPart bytes = (more : List ℕ) × (rest : List ℕ) × (more ≢ []) × IsRest rest × (bytes ++ more ≡ frame rest)
+IsPart bytes =
+    (length bytes < 4) ⊎ ((more : List ℕ) × (rest : List ℕ) × (0 < length more) × IsRest rest × (bytes ++ more ≡ frame rest))
 
 abbrev pub IsFirst : List ℕ → First → Type 0
 IsFirst bytes Part = IsPart bytes

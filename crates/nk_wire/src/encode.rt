@@ -1,13 +1,11 @@
 // The three encoders.
 
-ghost use Rattle.std.specs.Prelude.{◌≡◌, IfOk};
+ghost use Rattle.std.specs.Prelude.{IfOk};
 ghost use Rattle.nk_base.specs.Ranges.{IsMainInRange, IsBackInRange, IsUpInRange};
-ghost use Rattle.nk_wire.specs.Spelling.{frame, main_rest, back_rest, up_rest};
+ghost use Rattle.nk_wire.specs.Spelling.{IsFrameOf, SpellsMain, SpellsBack, SpellsUp};
 
 use crate::frame::Frame;
-use crate::write_back;
-use crate::write_main;
-use crate::write_up;
+use crate::{write_back, write_main, write_up};
 use nk_base::{BackMsg, MainMsg, Memory, UpMsg};
 use std::alloc::Global;
 
@@ -15,7 +13,7 @@ use std::alloc::Global;
 /// makes for PHttpChannelParent; the format is this project's own.
 pub fn encode_main(alloc: Global, m: &MainMsg) -> Result<Frame, Memory>
     requires { IsMainInRange m.now }
-    ensures { IfOk result (λ f. f ≡ frame (main_rest m.now)) }
+    ensures { IfOk result (λ f. IsFrameOf SpellsMain m.now f) }
 {
     let mut out = Frame::with_length(alloc, write_main::size(m))?;
     write_main::write(&mut out, m)?;
@@ -26,7 +24,7 @@ pub fn encode_main(alloc: Global, m: &MainMsg) -> Result<Frame, Memory>
 /// IPDL makes for PHttpBackgroundChannelParent; the format is this project's own.
 pub fn encode_back(alloc: Global, m: &BackMsg) -> Result<Frame, Memory>
     requires { IsBackInRange m.now }
-    ensures { IfOk result (λ f. f ≡ frame (back_rest m.now)) }
+    ensures { IfOk result (λ f. IsFrameOf SpellsBack m.now f) }
 {
     let mut out = Frame::with_length(alloc, write_back::size(m))?;
     write_back::write(&mut out, m)?;
@@ -37,7 +35,7 @@ pub fn encode_back(alloc: Global, m: &BackMsg) -> Result<Frame, Memory>
 /// makes for PHttpChannelChild; the format is this project's own.
 pub fn encode_up(alloc: Global, m: &UpMsg) -> Result<Frame, Memory>
     requires { IsUpInRange m.now }
-    ensures { IfOk result (λ f. f ≡ frame (up_rest m.now)) }
+    ensures { IfOk result (λ f. IsFrameOf SpellsUp m.now f) }
 {
     let mut out = Frame::with_length(alloc, write_up::size(m))?;
     write_up::write(&mut out, m)?;

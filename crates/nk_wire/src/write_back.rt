@@ -8,8 +8,7 @@ ghost use Rattle.nk_base.specs.Ranges.{IsBackInRange};
 ghost use Rattle.nk_wire.specs.Spelling.{BackFits, HasFourBytes, stop, back_rest};
 
 use crate::frame::{Frame, headers_size};
-use crate::kind;
-use crate::write_start;
+use crate::{kind, write_start};
 use nk_base::{BackMsg, Fields, Memory, Piece, Status};
 
 /// How many bytes the rest of a stop has.
@@ -60,7 +59,13 @@ fn stop(out: &mut Frame, hop: u32, status: Status, trailers: &Fields) -> Result<
 }
 
 /// Writes the rest of a piece's message at the end.
-fn bytes(out: &mut Frame, hop: u32, status: Status, offset: u64, piece: &Piece) -> Result<(), Memory>
+fn bytes(
+    out: &mut Frame,
+    hop: u32,
+    status: Status,
+    offset: u64,
+    piece: &Piece,
+) -> Result<(), Memory>
     ensures written { OnOk result (out.new ≡ out.old ++ back_rest (SpecBytes hop status offset piece.now)) }
     ensures fits { OnOk result (HasFourBytes status × (offset < 2 ^ 64)) }
 {

@@ -5,8 +5,7 @@ ghost use Rattle.nk_base.specs.Ranges.{IsMainInRange};
 ghost use Rattle.nk_wire.specs.Spelling.{MainFits, main_rest};
 
 use crate::frame::Frame;
-use crate::kind;
-use crate::write_start;
+use crate::{kind, write_start};
 use nk_base::{MainMsg, Memory};
 
 /// How many bytes the rest has.

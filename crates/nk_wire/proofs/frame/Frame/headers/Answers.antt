@@ -1,5 +1,5 @@
 -- Each turn writes the next header field.
-use Rattle.std.proofs.Common.{◌∙◌, arith}
+use Rattle.std.proofs.Common.{◌∙◌}
 use Rattle.nk_wire.proofs.Written.{next-good, left-good, with_next}
 use Rattle.nk_wire.proofs.frame.Frame.headers.Goals as goal
 
