@@ -1,6 +1,6 @@
 // The frames of a stream that comes in any pieces.
 
-ghost use Rattle.std.specs.Prelude.{◌≡◌, ◌<◌, ◌^◌, Some, None, OnOk, OnErr};
+ghost use Rattle.std.specs.Prelude.{◌≡◌, ◌<◌, ◌^◌, ◌+◌, length, Some, None, IfSome, IfNone, IfOk, OnOk, OnErr};
 ghost use Rattle.nk_wire.specs.declared.error.FrameError.{FrameError as SpecFrameError};
 ghost use Rattle.nk_wire.specs.Streams.{new_stream, fed, first, Part, IsNext, error_at, kept_after, needed, end_answer};
 
@@ -98,6 +98,10 @@ impl Frames {
         requires { self.old.offset < 2 ^ 62 }
         ensures stands { (e : SpecFrameError) → self.old.error ≡ Some e → (result ≡ Err e) × (self.new ≡ self.old) }
         ensures next { self.old.error ≡ None → IsNext self.old (first self.old.unused) result self.new }
+        // What a caller that goes on knows: after `None` only a part frame is left; no byte is lost or made.
+        ensures part { IfOk result (λ found. IfNone found (first self.new.unused ≡ Part)) }
+        ensures total { self.new.offset + length self.new.unused ≡ self.old.offset + length self.old.unused }
+        ensures shrinks { IfOk result (λ found. IfSome found (λ m. self.old.offset < self.new.offset)) }
     {
         if let Some(error) = self.error {
             return Err(error);

@@ -31,3 +31,6 @@ pub use frame::Frame;
 pub use frames::Frames;
 pub use laws::{none_begins_another, one_spelling, one_stands_first};
 pub use message::AnyMsg;
+
+#[cfg(test)]
+mod tests;
