@@ -94,7 +94,7 @@ out_of_range : (n : ℕ) → (n ≡ 0) ⊎ (528653 < n) → is_length n ≡ fals
 out_of_range n (inl none) = rw none refl
 out_of_range n (inr over) = over_range (leb 1 n) (leb n 528653) (lt-leb n over)
 
-frame-first : (rest more : List ℕ) → IsRest rest → first (frame rest ++ more) ≡ Whole rest more
+pub frame-first : (rest more : List ℕ) → IsRest rest → first (frame rest ++ more) ≡ Whole rest more
 frame-first rest more r =
     let n = length rest in
     let bytes = frame rest ++ more in

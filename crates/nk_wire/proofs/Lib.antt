@@ -10,6 +10,7 @@ pub mod Numbers
 pub mod Openings
 pub mod Ranges
 pub mod Rows
+pub mod Runs
 pub mod Sizes
 pub mod Spells
 pub mod Starts

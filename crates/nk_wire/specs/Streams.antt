@@ -8,7 +8,7 @@ use Rattle.nk_wire.specs.declared.error.FrameError.{FrameError}
 use Rattle.nk_wire.specs.declared.message.AnyMsg.{AnyMsg}
 use Rattle.nk_wire.specs.Layouts.{U32, from_little, little}
 use Rattle.nk_wire.specs.Kinds.{within}
-use Rattle.nk_wire.specs.Spelling.{frame}
+use Rattle.nk_wire.specs.Spelling.{SpellsAny, frame}
 use Rattle.nk_wire.specs.Reading.{Fails, any_answer}
 
 -- the bytes that were fed and not used, the number of bytes of the frames given so far, and the error that stands
@@ -61,6 +61,20 @@ abbrev pub IsFirst : List ℕ → First → Type 0
 IsFirst bytes Part = IsPart bytes
 IsFirst bytes (BadLength n) = (more : List ℕ) × (bytes ≡ little U32 n ++ more) × (n < 2 ^ 32) × ((n ≡ 0) ⊎ (528653 < n))
 IsFirst bytes (Whole rest more) = (bytes ≡ frame rest ++ more) × IsRest rest
+
+-- Whole streams.
+
+-- the bytes are the frames of these messages, one behind the other, and then what is left
+abbrev pub AreFrames : List AnyMsg → List ℕ → List ℕ → Type 0
+AreFrames [] bytes left = bytes ≡ left
+AreFrames (m ∷ ms) bytes left =
+    (rest : List ℕ) × (more : List ℕ) × SpellsAny m rest × (bytes ≡ frame rest ++ more) × AreFrames ms more left
+
+-- each whole frame that stands first is read as the next of these messages, and then what is left stands first
+abbrev pub AreRead : List AnyMsg → List ℕ → List ℕ → Type 0
+AreRead [] bytes left = bytes ≡ left
+AreRead (m ∷ ms) bytes left =
+    (rest : List ℕ) × (more : List ℕ) × (first bytes ≡ Whole rest more) × (any_answer rest ≡ Ok m) × AreRead ms more left
 
 -- What the calls do.
 

@@ -4,7 +4,7 @@
 ghost use Rattle.std.specs.Prelude.{◌≡◌, ◌<◌, ◌++◌, ℕ, List, [], slice_index};
 ghost use Rattle.nk_wire.specs.declared.message.AnyMsg.{AnyMsg};
 ghost use Rattle.nk_wire.specs.Spelling.{IsAnyInRange, AnyFits, SpellsAny, any_rest, frame};
-ghost use Rattle.nk_wire.specs.Streams.{First, IsFirst, IsRest, first};
+ghost use Rattle.nk_wire.specs.Streams.{First, IsFirst, IsRest, AreFrames, AreRead, first};
 
 /// Each message in range has exactly one spelling, of a length that a frame may have.
 pub fn one_spelling()
@@ -24,4 +24,11 @@ pub fn none_begins_another()
 pub fn one_stands_first()
     ensures is { (bytes : List ℕ) → ((i : ℕ) → slice_index bytes i < 256) → IsFirst bytes (first bytes) }
     ensures only { (bytes : List ℕ) (f : First) → IsFirst bytes f → first bytes ≡ f }
+{}
+
+/// A stream is read as the messages whose frames it is, and as no others, whatever is left behind them. So it does not
+/// matter in which pieces it comes.
+pub fn frames_are_read()
+    ensures read { (ms : List AnyMsg) (bytes left : List ℕ) → AreFrames ms bytes left → AreRead ms bytes left }
+    ensures only { (ms : List AnyMsg) (bytes left : List ℕ) → ((i : ℕ) → slice_index bytes i < 256) → AreRead ms bytes left → AreFrames ms bytes left }
 {}

@@ -29,7 +29,7 @@ pub use encode::{encode_back, encode_main, encode_up};
 pub use error::{DecodeError, FrameCause, FrameError};
 pub use frame::Frame;
 pub use frames::Frames;
-pub use laws::{none_begins_another, one_spelling, one_stands_first};
+pub use laws::{frames_are_read, none_begins_another, one_spelling, one_stands_first};
 pub use message::AnyMsg;
 
 #[cfg(test)]
