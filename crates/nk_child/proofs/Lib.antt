@@ -8,3 +8,4 @@ pub mod Ranges
 pub mod Reacting
 pub mod Same
 pub mod Stays
+pub mod Idle

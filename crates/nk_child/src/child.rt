@@ -2,6 +2,7 @@
 
 ghost use Rattle.std.specs.Prelude.{◌≡◌, ◌++◌, ◌≤◌, ◌+◌, [], IfOk, OnOk, OnErr, length, drop};
 ghost use Rattle.std.specs.Option.{option_copied};
+ghost use Rattle.nk_base.specs.declared.status.Moved.TheVariants as moved;
 ghost use Rattle.nk_plan.specs.Accepted.{Accepted};
 ghost use Rattle.nk_plan.specs.Child.{child_step, new_child};
 ghost use Rattle.nk_plan.specs.Enabled.{child_enabled};
@@ -146,6 +147,7 @@ impl Child {
         requires delivery_staged { D.staged delivery.old ≡ [] }
         ensures state { OnOk result (self.new ≡ record self.old { state = child_step self.old.plan step self.old.state }) }
         ensures answer { IfOk result (λ r. r ≡ moved_if (child_enabled self.old.plan step self.old.state)) }
+        ensures idle { IfOk result (λ r. r ≡ moved.Idle → self.new ≡ self.old) }
         ensures sent { OnOk result (U.held up.new ≡ U.held up.old ++ drop (length self.old.state.sent) self.new.state.sent) }
         ensures delivered { OnOk result (D.held delivery.new ≡ D.held delivery.old ++ drop (length self.old.state.trace) self.new.state.trace) }
         ensures up_staged { U.staged up.new ≡ [] }

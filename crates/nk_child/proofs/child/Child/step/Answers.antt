@@ -1,10 +1,11 @@
 -- The lists are moved in and out, and the row between makes a child of a child.
-use Rattle.std.proofs.Common.{sym, ◌∙◌, subst}
+use Rattle.std.proofs.Common.{sym, ◌∙◌, subst, rules}
 use Rattle.nk_plan.specs.declared.plan.ChannelPlan.{ChannelPlan}
 use Rattle.nk_plan.specs.Child.{ChildState}
 use Rattle.nk_plan.specs.Run.{IsChildState}
 use Rattle.nk_child.proofs.Counts.{counted}
 use Rattle.nk_child.proofs.Stays.{stays, restored, placed}
+use Rattle.nk_child.proofs.Idle.{idle_ok}
 use Rattle.nk_child.proofs.child.Child.step.Goals as goal
 
 pub step-moved-requires-clause-counts : goal.step-moved-requires-clause-counts
@@ -33,3 +34,6 @@ invariant_of-self g c =
     (sym (restored c.step-moved.new.self.state c.take_journal.new.self.state c.take_trace.new.self.state c.take_journal.result c.take_trace.result
     c.take_journal.ensures.state c.take_journal.ensures.journal c.take_trace.ensures.trace c.take_trace.ensures.state))
     after)
+
+pub returns-clause-idle : goal.returns-clause-idle
+returns-clause-idle g c = idle_ok c.step-moved.result c.args.step c.args.self.now _ (search rules) (search rules)
