@@ -1,4 +1,4 @@
-// Worked examples: what a child enters in its journal, step by step, and what its listener was shown at the end.
+// Worked examples: what a child enters in its journal, step by step.
 
 ghost use Rattle.std.specs.Prelude.{IfOk};
 ghost use Rattle.nk_base.specs.Ranges.{IsMainInRange, IsBackInRange};
@@ -164,79 +164,99 @@ fn done(child: &mut Child, alloc: Global, what: Do) -> Result<Moved, Fail> {
     Ok(moved)
 }
 
-/// Has the child do all this.
-fn play(child: &mut Child, alloc: Global, what: &[Do]) -> Result<(), Fail> {
+/// An entry of the journal: its kind, its target, a number (a code, an offset or a count), and a status or a length.
+#[derive(Clone, Copy, Drop, PartialEq, Eq)]
+struct Line(u8, Target, u64, u32);
+
+/// The line of an entry; a message has its kind alone.
+fn line_of(entry: &ChildEntry) -> Line {
+    match entry {
+        ChildEntry::Open => Line(b'o', MAIN, 0, 0),
+        ChildEntry::Break(status) => Line(b'k', MAIN, 0, status.0),
+        ChildEntry::Retarget(worker) => Line(b'w', Target::Worker(*worker), 0, 0),
+        ChildEntry::NoRetarget(RetargetError::AlreadyRetargeted(worker)) => {
+            Line(b'n', Target::Worker(*worker), 0, 0)
+        }
+        ChildEntry::TookMain(_) => Line(b'm', MAIN, 0, 0),
+        ChildEntry::TookBack(_) => Line(b'b', MAIN, 0, 0),
+        ChildEntry::Release(count) => Line(b'l', MAIN, *count as u64, 0),
+        ChildEntry::RunStart {
+            target,
+            code,
+            status,
+        } => Line(b's', *target, u64::from(*code), status.0),
+        ChildEntry::RunBytes {
+            target,
+            offset,
+            length,
+        } => Line(b'd', *target, *offset, *length),
+        ChildEntry::RunDrop {
+            target,
+            offset,
+            status,
+        } => Line(b'x', *target, *offset, status.0),
+        ChildEntry::RunStop { target, status } => Line(b'p', *target, 0, status.0),
+        ChildEntry::RunCancel { target, status } => Line(b'c', *target, 0, status.0),
+        ChildEntry::Finish(target) => Line(b'f', *target, 0, 0),
+        ChildEntry::Ended(target) => Line(b'e', *target, 0, 0),
+        ChildEntry::HandOver { from, .. } => Line(b'h', *from, 0, 0),
+        ChildEntry::Complete(target) => Line(b't', *target, 0, 0),
+        ChildEntry::Prepend(status) => Line(b'a', MAIN, 0, status.0),
+        _ => Line(b'?', MAIN, 0, 0),
+    }
+}
+
+/// Whether the child, made to do all this, has entered these lines and no others.
+fn enters(child: &mut Child, alloc: Global, what: &[Do], lines: &[Line]) -> Result<bool, Fail> {
     for one in what {
         let _ = done(child, alloc, *one)?;
     }
-    Ok(())
-}
-
-/// A letter for the kind of an entry.
-fn kind(entry: &ChildEntry) -> u8 {
-    match entry {
-        ChildEntry::Open => b'o',
-        ChildEntry::TookMain(_) => b'm',
-        ChildEntry::TookBack(_) => b'b',
-        ChildEntry::Release(_) => b'l',
-        ChildEntry::RunStart { .. } => b's',
-        ChildEntry::RunBytes { .. } => b'd',
-        ChildEntry::RunDrop { .. } => b'x',
-        ChildEntry::RunStop { .. } => b'p',
-        ChildEntry::RunCancel { .. } => b'c',
-        ChildEntry::Finish(_) => b'f',
-        ChildEntry::Ended(_) => b'e',
-        ChildEntry::HandOver { .. } => b'h',
-        ChildEntry::Complete(_) => b't',
-        ChildEntry::Prepend(_) => b'a',
-        ChildEntry::Retarget(_) => b'w',
-        ChildEntry::NoRetarget(_) => b'n',
-        ChildEntry::Break(_) => b'k',
-        _ => b'?',
-    }
-}
-
-/// Whether the child has entered entries of these kinds, and no others.
-fn entered(child: &Child, kinds: &[u8]) -> bool {
     let entries = child.journal().as_slice();
-    if entries.len() != kinds.len() {
-        return false;
+    if entries.len() != lines.len() {
+        return Ok(false);
     }
     for i in 0..entries.len() {
-        if kind(&entries[i]) != kinds[i] {
-            return false;
+        if line_of(&entries[i]) != lines[i] {
+            return Ok(false);
         }
     }
-    true
+    Ok(true)
 }
 
-/// Whether this entry shows these bytes at this offset.
-fn shows(entry: Option<&Entry>, at: u64, bytes: &[u8]) -> bool {
-    match entry {
-        Some(Entry::Bytes { offset, piece }) => *offset == at && piece.as_slice() == bytes,
-        _ => false,
-    }
+/// A line with a target alone.
+const fn at(kind: u8, target: Target) -> Line {
+    Line(kind, target, 0, 0)
 }
 
 #[test]
 fn a_head_alone_is_a_start_and_a_stop(rt: HostRuntime) -> Result<(), Fail> {
     let alloc = rt.alloc();
     let mut child = plain(alloc, StartLane::Main)?;
-    play(
-        &mut child,
-        alloc,
-        &[Do::Act, Do::Start(204), Do::StartSent, Do::Release],
-    )?;
-    assert_eq!(rt; child.running(), Some(MAIN));
-    assert_eq!(rt; child.ending(), Ending::Going);
-    play(&mut child, alloc, &[TURN, Do::Stop, TURN, TURN, TURN])?;
-    assert!(rt; entered(&child, b"omsblfbpfe"));
-    assert!(rt; child.sent() == [UpMsg::Open, UpMsg::Deleting].as_slice());
+    let steps = [
+        Do::Act,
+        Do::Start(204),
+        Do::StartSent,
+        Do::Release,
+        TURN,
+        Do::Stop,
+        TURN,
+        TURN,
+        TURN,
+    ];
+    let lines = [
+        at(b'o', MAIN),
+        at(b'm', MAIN),
+        Line(b's', MAIN, 204, 0),
+        at(b'b', MAIN),
+        Line(b'l', MAIN, 0, 0),
+        at(b'f', MAIN),
+        at(b'b', MAIN),
+        at(b'p', MAIN),
+        at(b'f', MAIN),
+        at(b'e', MAIN),
+    ];
+    assert!(rt; enters(&mut child, alloc, &steps, &lines)?);
     assert_eq!(rt; child.ending(), Ending::Stopped);
-    assert_eq!(rt;
-        done(&mut child, alloc, Do::Turn(Target::Worker(17)))?,
-        Moved::Idle
-    );
     Ok(())
 }
 
@@ -244,30 +264,34 @@ fn a_head_alone_is_a_start_and_a_stop(rt: HostRuntime) -> Result<(), Fail> {
 fn data_that_comes_first_waits_for_its_start(rt: HostRuntime) -> Result<(), Fail> {
     let alloc = rt.alloc();
     let mut child = plain(alloc, StartLane::Main)?;
-    let first = [
+    let steps = [
         Do::Act,
         Do::StartSent,
         Do::Byte(0, 97),
         Do::Byte(1, 98),
         Do::Stop,
+        Do::Release,
+        Do::Start(200),
+        Do::Release,
+        TURN,
+        TURN,
+        TURN,
     ];
-    play(&mut child, alloc, &first)?;
-    assert_eq!(rt; done(&mut child, alloc, Do::Release)?, Moved::Idle);
-    play(&mut child, alloc, &[Do::Start(200), Do::Release])?;
-    for _ in 0..8 {
-        play(&mut child, alloc, &[TURN])?;
-    }
-    assert!(rt;
-        matches!(
-            child.journal().as_slice().get(7),
-            Some(ChildEntry::Release(3))
-        )
-    );
-    let trace = child.trace().as_slice();
-    assert_eq!(rt; trace.len(), 4);
-    assert!(rt; shows(trace.get(1), 0, b"a"));
-    assert!(rt; shows(trace.get(2), 1, b"b"));
-    assert_eq!(rt; child.ending(), Ending::Stopped);
+    let lines = [
+        at(b'o', MAIN),
+        at(b'b', MAIN),
+        at(b'b', MAIN),
+        at(b'b', MAIN),
+        at(b'b', MAIN),
+        at(b'm', MAIN),
+        Line(b's', MAIN, 200, 0),
+        Line(b'l', MAIN, 3, 0),
+        at(b'f', MAIN),
+        Line(b'd', MAIN, 0, 1),
+        at(b'f', MAIN),
+    ];
+    assert!(rt; enters(&mut child, alloc, &steps, &lines)?);
+    assert_eq!(rt; child.trace().len(), 2);
     Ok(())
 }
 
@@ -286,60 +310,47 @@ fn a_listener_that_fails_on_a_worker_cancels_in_front_of_what_waits(
 ) -> Result<(), Fail> {
     let alloc = rt.alloc();
     let mut child = failing(alloc)?;
-    play(
-        &mut child,
-        alloc,
-        &[
-            Do::Act,
-            Do::Start(200),
-            TURN,
-            Do::StartSent,
-            Do::Byte(0, 97),
-        ],
-    )?;
-    play(
-        &mut child,
-        alloc,
-        &[
-            Do::Byte(1, 98),
-            Do::Stop,
-            Do::Release,
-            TURN,
-            WORK,
-            WORK,
-            WORK,
-        ],
-    )?;
-    assert!(rt;
-        matches!(
-            child.journal().as_slice().last(),
-            Some(ChildEntry::Prepend(Status::FAILURE))
-        )
-    );
-    for _ in 0..10 {
-        play(&mut child, alloc, &[TURN, WORK])?;
-    }
-    assert!(rt; entered(&child, b"omsfwbbbblhtdfathtchtxhtpfe"));
-    let trace = child.trace().as_slice();
-    assert_eq!(rt; trace.len(), 3);
-    assert!(rt; shows(trace.get(1), 0, b"a"));
-    assert!(rt;
-        matches!(
-            trace.get(2),
-            Some(Entry::Stop {
-                status: Status::FAILURE,
-                ..
-            })
-        )
-    );
-    let status = Status::FAILURE;
-    let sent = [
-        UpMsg::Open,
-        UpMsg::BytesRead { count: 1 },
-        UpMsg::Cancel { status },
-        UpMsg::Deleting,
+    let failure = Status::FAILURE.0;
+    let steps = [
+        Do::Act,
+        Do::Start(200),
+        TURN,
+        Do::StartSent,
+        Do::Byte(0, 97),
+        Do::Byte(1, 98),
+        Do::Stop,
+        Do::Release,
+        TURN,
+        WORK,
+        WORK,
+        WORK,
+        TURN,
+        WORK,
+        TURN,
+        TURN,
     ];
-    assert!(rt; child.sent() == sent.as_slice());
+    let lines = [
+        at(b'o', MAIN),
+        at(b'm', MAIN),
+        Line(b's', MAIN, 200, 0),
+        at(b'f', MAIN),
+        at(b'w', WORKER),
+        at(b'b', MAIN),
+        at(b'b', MAIN),
+        at(b'b', MAIN),
+        at(b'b', MAIN),
+        Line(b'l', MAIN, 3, 0),
+        at(b'h', MAIN),
+        at(b't', WORKER),
+        Line(b'd', WORKER, 0, 1),
+        at(b'f', WORKER),
+        Line(b'a', MAIN, 0, failure),
+        at(b't', MAIN),
+        at(b'h', WORKER),
+        at(b't', MAIN),
+        Line(b'c', MAIN, 0, failure),
+    ];
+    assert!(rt; enters(&mut child, alloc, &steps, &lines)?);
     Ok(())
 }
 
@@ -359,53 +370,44 @@ fn asking(alloc: Global) -> Result<Child, Fail> {
 fn data_goes_to_a_worker_once_and_the_stop_stays_on_main(rt: HostRuntime) -> Result<(), Fail> {
     let alloc = rt.alloc();
     let mut child = asking(alloc)?;
-    play(
-        &mut child,
-        alloc,
-        &[Do::Act, Do::Start(200), Do::StartSent, Do::Byte(0, 97)],
-    )?;
-    play(
-        &mut child,
-        alloc,
-        &[
-            Do::Release,
-            TURN,
-            Do::Act,
-            TURN,
-            WORK,
-            WORK,
-            Do::Act,
-            Do::Stop,
-            WORK,
-        ],
-    )?;
-    play(&mut child, alloc, &[WORK, TURN, TURN, TURN, TURN])?;
-    assert!(rt; entered(&child, b"omsbblfwhtdnbfhtpfe"));
-    let journal = child.journal().as_slice();
-    assert!(rt;
-        matches!(
-            journal.get(10),
-            Some(ChildEntry::RunBytes {
-                target: Target::Worker(1),
-                ..
-            })
-        )
-    );
-    assert!(rt;
-        matches!(
-            journal.get(11),
-            Some(ChildEntry::NoRetarget(RetargetError::AlreadyRetargeted(1)))
-        )
-    );
-    assert!(rt;
-        matches!(
-            journal.get(16),
-            Some(ChildEntry::RunStop {
-                target: Target::Main,
-                ..
-            })
-        )
-    );
+    let steps = [
+        Do::Act,
+        Do::Start(200),
+        Do::StartSent,
+        Do::Byte(0, 97),
+        Do::Release,
+        TURN,
+        Do::Act,
+        TURN,
+        WORK,
+        WORK,
+        Do::Act,
+        Do::Stop,
+        WORK,
+        WORK,
+        TURN,
+        TURN,
+    ];
+    let lines = [
+        at(b'o', MAIN),
+        at(b'm', MAIN),
+        Line(b's', MAIN, 200, 0),
+        at(b'b', MAIN),
+        at(b'b', MAIN),
+        Line(b'l', MAIN, 1, 0),
+        at(b'f', MAIN),
+        at(b'w', WORKER),
+        at(b'h', MAIN),
+        at(b't', WORKER),
+        Line(b'd', WORKER, 0, 1),
+        at(b'n', WORKER),
+        at(b'b', MAIN),
+        at(b'f', WORKER),
+        at(b'h', WORKER),
+        at(b't', MAIN),
+        at(b'p', MAIN),
+    ];
+    assert!(rt; enters(&mut child, alloc, &steps, &lines)?);
     Ok(())
 }
 
@@ -423,22 +425,18 @@ fn breaking(alloc: Global) -> Result<Child, Fail> {
 fn a_break_before_the_start_is_a_start_and_a_stop_that_failed(rt: HostRuntime) -> Result<(), Fail> {
     let alloc = rt.alloc();
     let mut child = breaking(alloc)?;
-    play(&mut child, alloc, &[Do::Act, Do::Act])?;
-    assert_eq!(rt; done(&mut child, alloc, Do::Start(200))?, Moved::Idle);
-    play(&mut child, alloc, &[TURN, TURN, TURN, TURN])?;
-    assert!(rt; entered(&child, b"oksfpfe"));
-    let start = child.journal().as_slice().get(2);
-    assert!(rt;
-        matches!(
-            start,
-            Some(ChildEntry::RunStart {
-                code: 0,
-                status: Status::NET_RESET,
-                ..
-            })
-        )
-    );
-    assert!(rt; child.sent() == [UpMsg::Open, UpMsg::Deleting].as_slice());
+    let reset = Status::NET_RESET.0;
+    let steps = [Do::Act, Do::Act, Do::Start(200), TURN, TURN, TURN, TURN];
+    let lines = [
+        at(b'o', MAIN),
+        Line(b'k', MAIN, 0, reset),
+        Line(b's', MAIN, 0, reset),
+        at(b'f', MAIN),
+        Line(b'p', MAIN, 0, reset),
+        at(b'f', MAIN),
+        at(b'e', MAIN),
+    ];
+    assert!(rt; enters(&mut child, alloc, &steps, &lines)?);
     Ok(())
 }
 
@@ -446,12 +444,28 @@ fn a_break_before_the_start_is_a_start_and_a_stop_that_failed(rt: HostRuntime) -
 fn a_start_on_the_background_lane_is_posted_to_main(rt: HostRuntime) -> Result<(), Fail> {
     let alloc = rt.alloc();
     let mut child = plain(alloc, StartLane::Back)?;
-    play(
-        &mut child,
-        alloc,
-        &[Do::Act, Do::BackStart(204), TURN, Do::Stop],
-    )?;
-    play(&mut child, alloc, &[TURN, TURN, TURN, TURN, TURN])?;
-    assert!(rt; entered(&child, b"obtbsfpfe"));
+    let steps = [
+        Do::Act,
+        Do::BackStart(204),
+        TURN,
+        Do::Stop,
+        TURN,
+        TURN,
+        TURN,
+        TURN,
+        TURN,
+    ];
+    let lines = [
+        at(b'o', MAIN),
+        at(b'b', MAIN),
+        at(b't', MAIN),
+        at(b'b', MAIN),
+        Line(b's', MAIN, 204, 0),
+        at(b'f', MAIN),
+        at(b'p', MAIN),
+        at(b'f', MAIN),
+        at(b'e', MAIN),
+    ];
+    assert!(rt; enters(&mut child, alloc, &steps, &lines)?);
     Ok(())
 }
