@@ -31,6 +31,20 @@ impl<T> Grow<T> {
         }
     }
 
+    /// The list of a vector, with the room that it has.
+    pub fn from_vec(items: Vec<T>) -> Self
+        ensures { result.items ≡ items.items }
+    {
+        Grow { items }
+    }
+
+    /// The same list, as a vector.
+    pub fn into_vec(self) -> Vec<T>
+        ensures { result.items ≡ self.items }
+    {
+        self.items
+    }
+
     /// Makes room for n items.
     pub fn reserve(&mut self, n: usize) -> Result<(), Memory>
         ensures items { self.new.items ≡ self.old.items }

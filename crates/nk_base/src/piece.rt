@@ -3,6 +3,7 @@
 ghost use Rattle.std.specs.Prelude.{◌≡◌, ◌++◌, ◌∷◌, ◌≤◌, ◌<◌, ◌↔◌, [], List, ℕ, length, slice_get, IsTrue, IfOk, OnOk, OnErr, Some};
 ghost use Rattle.nk_base.specs.Pieces.{IsPieceAnswer};
 
+use crate::grow::Grow;
 use crate::status::Memory;
 use bytes::Bytes;
 use std::alloc::Global;
@@ -72,6 +73,22 @@ impl ByteList {
         ensures { result.now ≡ self.now }
     {
         self.bytes.as_slice()
+    }
+
+    /// The same list, as one whose room can be told.
+    pub fn into_grow(self) -> Grow<u8>
+        ensures { result.items ≡ self }
+    {
+        Grow::from_vec(self.bytes)
+    }
+
+    /// The same list, whatever room it has.
+    pub fn from_grow(bytes: Grow<u8>) -> ByteList
+        ensures { result ≡ bytes.items }
+    {
+        ByteList {
+            bytes: bytes.into_vec(),
+        }
     }
 }
 
