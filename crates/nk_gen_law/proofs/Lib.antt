@@ -1,0 +1,9 @@
+pub mod Cuts
+pub mod Spellings
+pub mod Draws
+pub mod States
+pub mod Standing
+pub mod Bodies
+pub mod Options
+pub mod Channels
+pub mod Sizes
