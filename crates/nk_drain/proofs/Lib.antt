@@ -1,0 +1,10 @@
+pub mod ChildFalls
+pub mod ChildRows
+pub mod Falls
+pub mod Hops
+pub mod Idle
+pub mod ParentFalls
+pub mod QueueFalls
+pub mod Reach
+pub mod Rooms
+pub mod Tools

@@ -1,0 +1,128 @@
+-- A flush that ends or goes over to another target, and a posted task that is done, lower the queue's number.
+use Rattle.std.proofs.Common.{ℕ, zero, suc, ◌≡◌, ◌+◌, ◌-◌, ◌*◌, ◌<◌, ◌≤◌, ◌∙◌, ◌⊎◌, inl, inr, refl, ap, List, [], ◌∷◌, length, Bool, true, false, ◌&&◌, if◌then◌else◌, Option, Some, None, nat_le, ◌==◌, slice_index, set, arith, eqb-true, eq-eqb}
+use Rattle.std.proofs.lemmas.Bool.Decides.{nat_tests}
+use Rattle.nk_base.specs.declared.status.Target.{Target}
+use Rattle.nk_base.specs.declared.status.Target.TheVariants as target
+use Rattle.nk_base.specs.Queue.{same_target, is_target, target_number, raised, lowered}
+use Rattle.nk_drain.specs.Work.{by_first, flush_number, posted_number}
+use Rattle.nk_drain.proofs.Tools.{by_bool}
+
+-- Targets that are not the same have numbers of their own, but where they are workers outside 1 to 16
+
+pub same_is : (t u : Target) → same_target t u ≡ true → t ≡ u
+same_is target.Main target.Main e = refl
+same_is target.Main (target.Worker w) e = cc
+same_is target.Main target.Back e = cc
+same_is (target.Worker v) target.Main e = cc
+same_is (target.Worker v) (target.Worker w) e = ap target.Worker (eqb-true v w e)
+same_is (target.Worker v) target.Back e = cc
+same_is target.Back target.Main e = cc
+same_is target.Back (target.Worker w) e = cc
+same_is target.Back target.Back e = refl
+
+abbrev Numbered : ℕ → Type 0
+Numbered w = ((target_number (target.Worker w) ≡ w) × (1 ≤ w) × (w ≤ 16)) ⊎ (target_number (target.Worker w) ≡ 18)
+
+numbered_by : (w : ℕ) (b : Bool) → (nat_le 1 w && nat_le w 16) ≡ b → Numbered w
+numbered_by w true e = inl (rw e refl, grind (arith, nat_tests), grind (arith, nat_tests))
+numbered_by w false e = inr (rw e refl)
+
+numbered : (w : ℕ) → Numbered w
+numbered w = numbered_by w (nat_le 1 w && nat_le w 16) refl
+
+apart : (t u : Target) → same_target t u ≡ false → target_number t ≡ target_number u → 18 ≤ target_number t
+apart target.Main target.Main e n = cc
+apart target.Main (target.Worker w) e n = elim (numbered w) [ inl p ↦ absurd (omega arith) | inr p ↦ absurd (omega arith) ]
+apart target.Main target.Back e n = absurd (omega arith)
+apart (target.Worker v) target.Main e n = elim (numbered v) [ inl p ↦ absurd (omega arith) | inr p ↦ absurd (omega arith) ]
+apart (target.Worker v) (target.Worker w) e n = elim (numbered v) [
+  | inl p ↦ elim (numbered w) [
+    | inl q ↦ let x : v ≡ w = omega arith in let y : (v == w) ≡ true = eq-eqb v w x in absurd (cc)
+    | inr q ↦ absurd (omega arith)
+  ]
+  | inr p ↦ omega arith
+]
+apart (target.Worker v) target.Back e n = elim (numbered v) [ inl p ↦ absurd (omega arith) | inr p ↦ absurd (omega arith) ]
+apart target.Back target.Main e n = absurd (omega arith)
+apart target.Back (target.Worker w) e n = elim (numbered w) [ inl p ↦ absurd (omega arith) | inr p ↦ absurd (omega arith) ]
+apart target.Back target.Back e n = cc
+
+-- What the numbers of posted tasks are when one is raised or lowered
+
+first_or_other : (f : Option Target) (k : ℕ) → ((a b : ℕ) → by_first f k a b ≡ a) ⊎ ((a b : ℕ) → by_first f k a b ≡ b)
+first_or_other None k = inr (λ a b. refl)
+first_or_other (Some t) k = by_bool (target_number t == k) (λ e. inl (λ a b. rw e refl)) (λ e. inr (λ a b. rw e refl))
+
+one_more : (f : Option Target) (k n : ℕ) → by_first f k (2 * (n + 1)) (4 * (n + 1)) ≡ by_first f k (2 * n) (4 * n) + by_first f k 2 4
+one_more f k n = elim (first_or_other f k) [
+  | inl h ↦ omega (arith, h (2 * (n + 1)) (4 * (n + 1)), h (2 * n) (4 * n), h 2 4)
+  | inr h ↦ omega (arith, h (2 * (n + 1)) (4 * (n + 1)), h (2 * n) (4 * n), h 2 4)
+]
+
+one_less : (f : Option Target) (k n : ℕ) → 0 < n → by_first f k (2 * (n - 1)) (4 * (n - 1)) + by_first f k 2 4 ≡ by_first f k (2 * n) (4 * n)
+one_less f k n l = elim (first_or_other f k) [
+  | inl h ↦ omega (arith, h (2 * (n - 1)) (4 * (n - 1)), h (2 * n) (4 * n), h 2 4)
+  | inr h ↦ omega (arith, h (2 * (n - 1)) (4 * (n - 1)), h (2 * n) (4 * n), h 2 4)
+]
+
+-- m is where the place i stands, counted from k
+raised_number : (f : Option Target) (k i m : ℕ) (p : List ℕ) → m ≡ k + i → posted_number f k (set p i (slice_index p i + 1)) ≤ posted_number f k p + by_first f m 2 4
+raised_number f k i m [] e = omega arith
+raised_number f k zero m (n ∷ ns) e =
+    let same : m ≡ k = omega arith in
+    let h : by_first f k (2 * (n + 1)) (4 * (n + 1)) ≡ by_first f k (2 * n) (4 * n) + by_first f k 2 4 = one_more f k n in
+    omega (arith, ap (λ x. by_first f x 2 4) same)
+raised_number f k (suc i) m (n ∷ ns) e =
+    let h : posted_number f (suc k) (set ns i (slice_index ns i + 1)) ≤ posted_number f (suc k) ns + by_first f m 2 4 = raised_number f (suc k) i m ns (omega arith) in
+    omega arith
+
+lowered_number : (f : Option Target) (k i m : ℕ) (p : List ℕ) → m ≡ k + i → 0 < slice_index p i → posted_number f k (set p i (slice_index p i - 1)) + by_first f m 2 4 ≡ posted_number f k p
+lowered_number f k i m [] e l = absurd (omega arith)
+lowered_number f k zero m (n ∷ ns) e l =
+    let same : m ≡ k = omega arith in
+    let h : by_first f k (2 * (n - 1)) (4 * (n - 1)) + by_first f k 2 4 ≡ by_first f k (2 * n) (4 * n) = one_less f k n l in
+    omega (arith, ap (λ x. by_first f x 2 4) same)
+lowered_number f k (suc i) m (n ∷ ns) e l =
+    let h : posted_number f (suc k) (set ns i (slice_index ns i - 1)) + by_first f m 2 4 ≡ posted_number f (suc k) ns = lowered_number f (suc k) i m ns (omega arith) l in
+    omega arith
+
+set_past : (p : List ℕ) (i v : ℕ) → length p ≤ i → set p i v ≡ p
+set_past [] i v l = refl
+set_past (n ∷ ns) zero v l = absurd (omega arith)
+set_past (n ∷ ns) (suc i) v l = ap (λ t. n ∷ t) (set_past ns i v (omega arith))
+
+-- The three turns of a queue that run no event
+
+-- a flush ends
+pub ended_falls : (f o : Option Target) (t : Target) → is_target o t ≡ true → 0 < flush_number f o
+ended_falls f None t e = cc
+ended_falls f (Some u) t e = elim (first_or_other f (target_number u)) [ inl h ↦ omega (arith, h 1 3) | inr h ↦ omega (arith, h 1 3) ]
+
+-- a flush goes over to the target of the first event, which is not its own
+pub over_falls : (u t : Target) (o : Option Target) (p : List ℕ) → length p ≡ 18 → same_target u t ≡ false → is_target o t ≡ true
+    → posted_number (Some u) 0 (raised p u) < flush_number (Some u) o + posted_number (Some u) 0 p
+over_falls u t None p l d e = cc
+over_falls u t (Some v) p l d e = by_bool (target_number u == target_number v)
+    (λ same.
+    let n : target_number u ≡ target_number t = eqb-true (target_number u) (target_number v) same ∙ ap target_number (same_is v t e) in
+    let far : 18 ≤ target_number u = apart u t d n in
+    let past : raised p u ≡ p = set_past p (target_number u) (slice_index p (target_number u) + 1) (omega arith) in
+    let flush : flush_number (Some u) (Some v) ≡ 1 = rw same refl in
+    omega (arith, ap (λ x. posted_number (Some u) 0 x) past))
+    (λ other.
+    let self : (target_number u == target_number u) ≡ true = eq-eqb (target_number u) (target_number u) refl in
+    let own : by_first (Some u) (target_number u) 2 4 ≡ 2 = rw self refl in
+    let flush : flush_number (Some u) (Some v) ≡ 3 = rw other refl in
+    let h : posted_number (Some u) 0 (raised p u) ≤ posted_number (Some u) 0 p + by_first (Some u) (target_number u) 2 4 = raised_number (Some u) 0 (target_number u) (target_number u) p (omega arith) in
+    omega arith)
+
+-- a posted task is done, and where no flush was under way, one may begin there
+pub completed_falls : (f : Option Target) (t : Target) (b : Bool) (o : Option Target) (p : List ℕ) → 0 < slice_index p (target_number t) → (b ≡ true → o ≡ None)
+    → flush_number f (if b then Some t else o) + posted_number f 0 (lowered p t) < flush_number f o + posted_number f 0 p
+completed_falls f t true o p l n =
+    let none : flush_number f o ≡ 0 = ap (λ x. flush_number f x) (n refl) in
+    let h : posted_number f 0 (lowered p t) + by_first f (target_number t) 2 4 ≡ posted_number f 0 p = lowered_number f 0 (target_number t) (target_number t) p (omega arith) l in
+    elim (first_or_other f (target_number t)) [ inl g ↦ omega (arith, g 1 3, g 2 4) | inr g ↦ omega (arith, g 1 3, g 2 4) ]
+completed_falls f t false o p l n =
+    let h : posted_number f 0 (lowered p t) + by_first f (target_number t) 2 4 ≡ posted_number f 0 p = lowered_number f 0 (target_number t) (target_number t) p (omega arith) l in
+    elim (first_or_other f (target_number t)) [ inl g ↦ omega (arith, g 2 4) | inr g ↦ omega (arith, g 2 4) ]

@@ -1,0 +1,5 @@
+use Rattle.nk_drain.proofs.Idle.{idle}
+use Rattle.nk_drain.proofs.laws.idle_law.Goals as goal
+
+pub returns : goal.returns
+returns c = idle

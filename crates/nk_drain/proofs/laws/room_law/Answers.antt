@@ -1,0 +1,6 @@
+use Rattle.nk_drain.proofs.Reach.{no_more}
+use Rattle.nk_drain.proofs.Rooms.{starts, lanes, rooms}
+use Rattle.nk_drain.proofs.laws.room_law.Goals as goal
+
+pub returns : goal.returns
+returns c = record { work = no_more; start = starts; lanes = lanes; room = rooms }
