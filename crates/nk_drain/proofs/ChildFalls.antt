@@ -4,7 +4,7 @@ use Rattle.nk_base.specs.declared.status.Target.{Target}
 use Rattle.nk_base.specs.declared.message.BackMsg.{BackMsg}
 use Rattle.nk_base.specs.declared.message.BackMsg.TheVariants as back
 use Rattle.nk_base.specs.declared.message.UpMsg.TheVariants as up
-use Rattle.nk_base.specs.Queue.{Queue, Taken, Event, Over, Ended, has_some, target_number, target_in, same_target, is_target, raised, completed, complete_answer, taken}
+use Rattle.nk_base.specs.Queue.{Queue, Taken, Event, Over, Ended, has_some, target_number, target_in, same_target, is_target, raised, completed, complete_answer, lowered, taken}
 use Rattle.nk_plan.specs.declared.plan.ChannelPlan.{ChannelPlan}
 use Rattle.nk_plan.specs.declared.plan.Control.{Control}
 use Rattle.nk_plan.specs.declared.event.ChildEvent.{ChildEvent}
@@ -15,10 +15,10 @@ use Rattle.nk_plan.specs.Event.{class_of}
 use Rattle.nk_plan.specs.Child.{ChildState, is_due, perform_call, perform_control, step_act, verdict_status, step_verdict, back_events, of_hop, not_of_hop, back_hop, released_hold, step_release, flush_with, runs_on, step_begin, finish_event, step_finish, child_step}
 use Rattle.nk_plan.specs.Enabled.{child_enabled}
 use Rattle.nk_base.specs.declared.status.Target.TheVariants as target
-use Rattle.nk_drain.specs.Work.{event_work, events_work, running_work, question_work, report_work, calls_work, first_runs_on, flush_number, posted_number, queue_number}
+use Rattle.nk_drain.specs.Work.{event_work, events_work, flush_work, posted_work, running_work, question_work, report_work, calls_work, first_runs_on, flush_number, posted_number, queue_number}
 use Rattle.nk_drain.proofs.Tools.{keeps_if, before_end}
-use Rattle.nk_drain.proofs.QueueFalls.{ended_falls, over_falls, completed_falls}
-use Rattle.nk_drain.proofs.ChildRows.{Row, row, row_then, run_cost, costs_less, run_row, offers_row, call_cost, call_most, call_row, finished_row}
+use Rattle.nk_drain.proofs.QueueFalls.{raised_work, lowered_work, flush_is, over_falls, completed_falls}
+use Rattle.nk_drain.proofs.ChildRows.{Row, row, flush_then, row_then, run_cost, costs_less, run_row, offers_row, call_cost, call_most, call_row, finished_row}
 
 -- work is given up, or the queue's number falls
 abbrev pub Sinks : ChannelPlan → ChildState → ChildState → Type 0
@@ -49,7 +49,7 @@ true_if false P x y e p = cc
 
 -- The page's next call
 
-call_taken : (c : ChannelPlan) (opened : Bool) (n : ℕ) → n < length c.controls → calls_work c opened (suc n) + 133 ≤ calls_work c opened n
+call_taken : (c : ChannelPlan) (opened : Bool) (n : ℕ) → n < length c.controls → calls_work c opened (suc n) + 137 ≤ calls_work c opened n
 call_taken c false n l = omega arith
 call_taken c true n l = omega arith
 
@@ -58,9 +58,9 @@ control_falls c None s e d = cc
 control_falls c (Some control) s e d =
     let s1 : ChildState = record s { next = suc s.next } in
     let l : s.next < length c.controls = before_end c.controls s.next control e in
-    let t : calls_work c s.opened (suc s.next) + 133 ≤ calls_work c s.opened s.next = call_taken c s.opened s.next l in
-    let a : Row c 133 0 s s1 = record { less = omega arith; sent = omega arith; mains = omega arith; backs = omega arith; posted = refl } in
-    let m : call_cost control.act ≤ 132 = call_most control.act in
+    let t : calls_work c s.opened (suc s.next) + 137 ≤ calls_work c s.opened s.next = call_taken c s.opened s.next l in
+    let a : Row c 137 0 s s1 = record { less = omega arith; sent = omega arith; mains = omega arith; backs = omega arith; posted = refl } in
+    let m : call_cost control.act ≤ 136 = call_most control.act in
     true_if (nat_le control.after s.finished) (Row c 1 0 s) (perform_call c control.act s1) s d (row_then 1 0 a (call_row c control.act s1) (omega arith))
 
 open_falls : (c : ChannelPlan) (s : ChildState) → s.opened ≡ false → Row c 1 0 s (record s { opened = true; sent = s.sent ++ up.Open ∷ []; journal = s.journal ++ child.Open ∷ [] })
@@ -106,7 +106,7 @@ release_falls c (Some h) s q e =
     let s1 : ChildState = record s { hold = released_hold h s.hold; journal = s.journal ++ child.Release (length ms) ∷ [] } in
     let k : report_work s.hold.report ≡ 1 = ap report_work q in
     let all : length (of_hop h s.hold.kept) + length (not_of_hop h s.hold.kept) ≡ length s.hold.kept = split_hop h s.hold.kept in
-    let a : Row c (67 * length ms + 1) 0 s s1 = row c (67 * length ms + 1) 0 s s1 (child.Release (length ms) ∷ []) refl (omega arith) (omega arith) refl in
+    let a : Row c (68 * length ms + 1) 0 s s1 = row c (68 * length ms + 1) 0 s s1 (child.Release (length ms) ∷ []) refl (omega arith) (omega arith) refl in
     let f : length (back_events ms) ≤ length ms = few_events ms in
     row_then 1 0 a (offers_row c target.Back (back_events ms) s1) (omega arith)
 
@@ -114,14 +114,16 @@ release_falls c (Some h) s q e =
 
 ended_sinks : (c : ChannelPlan) (t : Target) (s : ChildState) → is_target s.queue.flushing t ≡ true → Sinks c s (flush_with c t Ended s)
 ended_sinks c t s e =
-    let n : 0 < flush_number (first_runs_on s.queue.data_target s.queue.waiting) s.queue.flushing = ended_falls (first_runs_on s.queue.data_target s.queue.waiting) s.queue.flushing t e in
-    inr (row c 0 0 s _ _ refl (omega arith) (omega arith) refl, omega arith)
+    let f : flush_work s.queue.flushing ≡ 1 = flush_is s.queue.flushing t e in
+    inl (row c 1 0 s _ _ refl (omega arith) (omega arith) refl)
 
 over_sinks : (c : ChannelPlan) (t u : Target) (s : ChildState) → is_target s.queue.flushing t ≡ true → length s.queue.posted ≡ 18
     → first_runs_on s.queue.data_target s.queue.waiting ≡ Some u → same_target u t ≡ false → Sinks c s (flush_with c t (Over u) s)
 over_sinks c t u s e l f d =
     let p : List ℕ = s.queue.posted in
     let h : posted_number (Some u) 0 (raised p u) < flush_number (Some u) s.queue.flushing + posted_number (Some u) 0 p = over_falls u t s.queue.flushing p l d e in
+    let k : flush_work s.queue.flushing ≡ 1 = flush_is s.queue.flushing t e in
+    let m : posted_work (raised p u) ≤ posted_work p + 1 = raised_work p (target_number u) in
     let n : 0 + posted_number (Some u) 0 (raised p u) < flush_number (Some u) s.queue.flushing + posted_number (Some u) 0 p = omega arith in
     inr (
       row c 0 0 s _ _ refl (omega arith) (omega arith) (length-set p (target_number u) (slice_index p (target_number u) + 1)),
@@ -158,6 +160,8 @@ complete_sinks : (c : ChannelPlan) (t : Target) (s : ChildState) → nat_lt 0 (s
 complete_sinks c t s e =
     let q : Queue ChildEvent = s.queue in
     let l : 0 < slice_index q.posted (target_number t) = ltb-true 0 (slice_index q.posted (target_number t)) e in
+    let m : posted_work (lowered q.posted t) + 1 ≡ posted_work q.posted = lowered_work q.posted (target_number t) l in
+    let f : flush_work (completed q t).flushing ≤ flush_work q.flushing + 1 = flush_then (complete_answer q) t q.flushing in
     inr (
       row c 0 0 s _ _ refl (omega arith) (omega arith) (length-set q.posted (target_number t) (slice_index q.posted (target_number t) - 1)),
       completed_falls (first_runs_on q.data_target q.waiting) t (complete_answer q) q.flushing q.posted l
@@ -176,8 +180,8 @@ finish_falls : (c : ChannelPlan) (t : Target) (o : Option (Target × ChildEvent)
 finish_falls c t None s l q e = cc
 finish_falls c t (Some r) s l q e =
     let s1 : ChildState = record s { running = None; finished = suc s.finished; journal = s.journal ++ child.Finish t ∷ [] } in
-    let k : running_work s.running ≡ 65 = ap running_work q in
-    let a : Row c 65 0 s s1 = row c 65 0 s s1 (child.Finish t ∷ []) refl (omega arith) (omega arith) refl in
+    let k : running_work s.running ≡ 66 = ap running_work q in
+    let a : Row c 66 0 s s1 = row c 66 0 s s1 (child.Finish t ∷ []) refl (omega arith) (omega arith) refl in
     true_if (same_target r.0 t) (Row c 1 0 s) (finish_event c t r.1 s1) s e (row_then 1 0 a (finished_row c t r.1 s1 l) (omega arith))
 
 -- All steps of a child but those that take a message

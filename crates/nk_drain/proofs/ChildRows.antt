@@ -10,7 +10,7 @@ use Rattle.nk_base.specs.declared.message.BackMsg.{BackMsg}
 use Rattle.nk_base.specs.declared.message.BackMsg.TheVariants as back
 use Rattle.nk_base.specs.declared.message.UpMsg.{UpMsg}
 use Rattle.nk_base.specs.declared.message.UpMsg.TheVariants as up
-use Rattle.nk_base.specs.Queue.{Queue, target_number, target_in, same_target, is_busy, runs_now, running_now, appended, raised, posted_first, resume_posts, resumed_once, prepended, suspended_once, cleared, unforced}
+use Rattle.nk_base.specs.Queue.{Queue, target_number, target_in, same_target, is_busy, runs_now, running_now, appended, raised, posted_first, resume_posts, resumed_once, prepended, suspended_once, cleared, unforced, unforced_answer}
 use Rattle.nk_plan.specs.declared.plan.ChannelPlan.{ChannelPlan}
 use Rattle.nk_plan.specs.declared.plan.StartLane.{StartLane}
 use Rattle.nk_plan.specs.declared.plan.StartLane.TheVariants as lane
@@ -26,8 +26,9 @@ use Rattle.nk_plan.specs.Event.{class_of}
 use Rattle.nk_plan.specs.Failure.{merged}
 use Rattle.nk_plan.specs.Journal.{mains_taken, backs_taken}
 use Rattle.nk_plan.specs.Child.{ChildState, with_entry, run_bytes, cancel_messages, run_event, offer_event, offer_all, call_suspend, call_resume, call_cancel, refusal, call_retarget, is_empty, call_break, perform_call, note_report, note_redirect, step_main, back_events_of, keep_back, is_among, back_hop, hold_back, step_back, react, react_all, bytes_failure, prepend_cancel, fail_data, end_forced, finish_event}
-use Rattle.nk_drain.specs.Work.{event_work, events_work, child_work}
+use Rattle.nk_drain.specs.Work.{event_work, events_work, flush_work, posted_work, queue_work, child_work}
 use Rattle.nk_drain.proofs.Tools.{keeps_if, mains_more, backs_more}
+use Rattle.nk_drain.proofs.QueueFalls.{raised_work}
 
 -- From s to s' the child gives up u of its work at least, but for d
 pub record Row (c : ChannelPlan) (u d : ℕ) (s s' : ChildState) : Type 0 where
@@ -68,17 +69,17 @@ pub noted : (c : ChannelPlan) (e : ChildEntry) (s : ChildState) → Row c 0 0 s 
 noted c e s = row c 0 0 s (with_entry e s) (e ∷ []) refl (omega arith) (omega arith) refl
 
 -- the queue alone
-pub queued : (c : ChannelPlan) (d : ℕ) (s : ChildState) (q : Queue ChildEvent) → events_work q.waiting ≤ events_work s.queue.waiting + d → length q.posted ≡ length s.queue.posted → Row c 0 d s (record s { queue = q })
+pub queued : (c : ChannelPlan) (d : ℕ) (s : ChildState) (q : Queue ChildEvent) → queue_work q ≤ queue_work s.queue + d → length q.posted ≡ length s.queue.posted → Row c 0 d s (record s { queue = q })
 queued c d s q l p = record { less = omega arith; sent = omega arith; mains = omega arith; backs = omega arith; posted = p }
 
 -- Running an event
 
 abbrev pub run_cost : ChildEvent → ℕ
-run_cost (Start code st) = 65
-run_cost (Bytes o p st) = 65
-run_cost (Stop st) = 65
-run_cost (Redirect1 h) = 65
-run_cost (Redirect3 h) = 65
+run_cost (Start code st) = 66
+run_cost (Bytes o p st) = 66
+run_cost (Stop st) = 66
+run_cost (Redirect1 h) = 66
+run_cost (Redirect3 h) = 66
 run_cost (Cancel st) = 1
 
 pub costs_less : (e : ChildEvent) → event_work e ≡ run_cost e + 1
@@ -89,7 +90,7 @@ costs_less (Redirect1 h) = refl
 costs_less (Redirect3 h) = refl
 costs_less (Cancel st) = refl
 
-event_most : (e : ChildEvent) → event_work e ≤ 66
+event_most : (e : ChildEvent) → event_work e ≤ 67
 event_most (Start code st) = omega arith
 event_most (Bytes o p st) = omega arith
 event_most (Stop st) = omega arith
@@ -101,16 +102,16 @@ cancel_most : (k : Option Status) (st : Status) → length (cancel_messages k st
 cancel_most None st = omega arith
 cancel_most (Some q) st = omega arith
 
-bytes_row : (c : ChannelPlan) (t : Target) (o : ℕ) (p : List ℕ) (k : Option Status) (st : Status) (s : ChildState) → Row c 0 65 s (run_bytes s t o p k st)
-bytes_row c t o p None st s = row c 0 65 s _ _ refl (omega arith) (omega arith) refl
-bytes_row c t o p (Some q) st s = row c 0 65 s _ _ refl (omega arith) (omega arith) refl
+bytes_row : (c : ChannelPlan) (t : Target) (o : ℕ) (p : List ℕ) (k : Option Status) (st : Status) (s : ChildState) → Row c 0 66 s (run_bytes s t o p k st)
+bytes_row c t o p None st s = row c 0 66 s _ _ refl (omega arith) (omega arith) refl
+bytes_row c t o p (Some q) st s = row c 0 66 s _ _ refl (omega arith) (omega arith) refl
 
 pub run_row : (c : ChannelPlan) (t : Target) (e : ChildEvent) (s : ChildState) → Row c 0 (run_cost e) s (run_event c t e s)
-run_row c t (Start code st) s = row c 0 65 s _ _ refl (omega arith) (omega arith) refl
+run_row c t (Start code st) s = row c 0 66 s _ _ refl (omega arith) (omega arith) refl
 run_row c t (Bytes o p st) s = bytes_row c t o p (merged s.kept st) st s
-run_row c t (Stop st) s = row c 0 65 s _ _ refl (omega arith) (omega arith) refl
-run_row c t (Redirect1 h) s = row c 0 65 s _ _ refl (omega arith) (omega arith) refl
-run_row c t (Redirect3 h) s = row c 0 65 s _ _ refl (omega arith) (omega arith) refl
+run_row c t (Stop st) s = row c 0 66 s _ _ refl (omega arith) (omega arith) refl
+run_row c t (Redirect1 h) s = row c 0 66 s _ _ refl (omega arith) (omega arith) refl
+run_row c t (Redirect3 h) s = row c 0 66 s _ _ refl (omega arith) (omega arith) refl
 run_row c t (Cancel st) s =
     let n : length (s.sent ++ cancel_messages s.kept st) ≡ length s.sent + length (cancel_messages s.kept st) = length-append s.sent (cancel_messages s.kept st) in
     let m : length (cancel_messages s.kept st) ≤ 1 = cancel_most s.kept st in
@@ -122,39 +123,48 @@ waits_more : (w : List ChildEvent) (e : ChildEvent) → events_work (w ++ e ∷ 
 waits_more [] e = omega arith
 waits_more (x ∷ w) e = let h : events_work (w ++ e ∷ []) ≡ events_work w + event_work e = waits_more w e in omega arith
 
+raised_most : (b : Bool) (p : List ℕ) (t : Target) → posted_work (if b then p else raised p t) ≤ posted_work p + 1
+raised_most true p t = omega arith
+raised_most false p t = raised_work p (target_number t)
+
+pub flush_then : (b : Bool) (here : Target) (o : Option Target) → flush_work (if b then Some here else o) ≤ flush_work o + 1
+flush_then true here o = omega arith
+flush_then false here o = omega arith
+
 raised_length : (b : Bool) (p : List ℕ) (t : Target) → length (if b then p else raised p t) ≡ length p
 raised_length true p t = refl
 raised_length false p t = length-set p (target_number t) (slice_index p (target_number t) + 1)
 
-appended_row : (c : ChannelPlan) (e : ChildEvent) (s : ChildState) → Row c 0 66 s (record s { queue = appended class_of s.queue e })
+appended_row : (c : ChannelPlan) (e : ChildEvent) (s : ChildState) → Row c 0 68 s (record s { queue = appended class_of s.queue e })
 appended_row c e s =
     let h : events_work (s.queue.waiting ++ e ∷ []) ≡ events_work s.queue.waiting + event_work e = waits_more s.queue.waiting e in
-    let m : event_work e ≤ 66 = event_most e in
-    queued c 66 s (appended class_of s.queue e) (omega arith) (raised_length (is_busy s.queue) s.queue.posted (target_in s.queue.data_target (class_of e)))
+    let m : event_work e ≤ 67 = event_most e in
+    let p : posted_work (appended class_of s.queue e).posted ≤ posted_work s.queue.posted + 1 = raised_most (is_busy s.queue) s.queue.posted (target_in s.queue.data_target (class_of e)) in
+    queued c 68 s (appended class_of s.queue e) (omega arith) (raised_length (is_busy s.queue) s.queue.posted (target_in s.queue.data_target (class_of e)))
 
-offered_row : (c : ChannelPlan) (here : Target) (e : ChildEvent) (s : ChildState) → Row c 0 66 s (offer_event c here e s)
+offered_row : (c : ChannelPlan) (here : Target) (e : ChildEvent) (s : ChildState) → Row c 0 68 s (offer_event c here e s)
 offered_row c here e s =
     let s1 : ChildState = record s { queue = running_now s.queue here } in
-    let m : event_work e ≤ 66 = event_most e in
+    let m : event_work e ≤ 67 = event_most e in
     let n : event_work e ≡ run_cost e + 1 = costs_less e in
-    keeps_if (Row c 0 66 s) (runs_now class_of s.queue e here) (run_event c here e s1) _
-    (λ r. row_then 0 66 (queued c 0 s (running_now s.queue here) (omega arith) refl) (run_row c here e s1) (omega arith))
+    keeps_if (Row c 0 68 s) (runs_now class_of s.queue e here) (run_event c here e s1) _
+    (λ r. row_then 0 68 (queued c 1 s (running_now s.queue here) (omega arith) refl) (run_row c here e s1) (omega arith))
     (λ r. appended_row c e s)
 
-pub offers_row : (c : ChannelPlan) (here : Target) (es : List ChildEvent) (s : ChildState) → Row c 0 (66 * length es) s (offer_all c here es s)
+pub offers_row : (c : ChannelPlan) (here : Target) (es : List ChildEvent) (s : ChildState) → Row c 0 (68 * length es) s (offer_all c here es s)
 offers_row c here [] s = row_same c s
-offers_row c here (e ∷ es) s = row_then 0 (66 * suc (length es)) (offered_row c here e s) (offers_row c here es (offer_event c here e s)) (omega arith)
+offers_row c here (e ∷ es) s = row_then 0 (68 * suc (length es)) (offered_row c here e s) (offers_row c here es (offer_event c here e s)) (omega arith)
 
 -- The calls of the page
 
 abbrev pub call_cost : Act → ℕ
 call_cost act.Suspend = 1
-call_cost act.Resume = 1
+call_cost act.Resume = 2
 call_cost (act.Cancel st) = 1
 call_cost (act.Retarget w) = 1
-call_cost (act.Break st) = 132
+call_cost (act.Break st) = 136
 
-pub call_most : (x : Act) → call_cost x ≤ 132
+pub call_most : (x : Act) → call_cost x ≤ 136
 call_most act.Suspend = omega arith
 call_most act.Resume = omega arith
 call_most (act.Cancel st) = omega arith
@@ -173,6 +183,15 @@ first_length : (p : List ℕ) (t : Target) (w : List ChildEvent) → length (pos
 first_length p t [] = refl
 first_length p t (e ∷ w) = raised_length false p (target_in t (class_of e))
 
+first_most : (p : List ℕ) (t : Target) (w : List ChildEvent) → posted_work (posted_first class_of t p w) ≤ posted_work p + 1
+first_most p t [] = omega arith
+first_most p t (e ∷ w) = raised_most false p (target_in t (class_of e))
+
+resumed_most : (q : Queue ChildEvent) → posted_work (resumed_once class_of q).posted ≤ posted_work q.posted + 1
+resumed_most q =
+    keeps_if (λ p. posted_work p ≤ posted_work q.posted + 1) (resume_posts q) (posted_first class_of q.data_target q.posted q.waiting) q.posted
+    (λ r. first_most q.posted q.data_target q.waiting) (λ r. omega arith)
+
 resumed_length : (q : Queue ChildEvent) → length (resumed_once class_of q).posted ≡ length q.posted
 resumed_length q =
     keeps_if (λ p. length p ≡ length q.posted) (resume_posts q) (posted_first class_of q.data_target q.posted q.waiting) q.posted
@@ -185,12 +204,13 @@ suspend_row c s =
     let m : length more ≤ 1 = one_or_none (s.suspends == 0) up.Suspend in
     row c 0 1 s _ _ refl (omega arith) (omega arith) refl
 
-resume_row : (c : ChannelPlan) (s : ChildState) → Row c 0 1 s (call_resume s)
+resume_row : (c : ChannelPlan) (s : ChildState) → Row c 0 2 s (call_resume s)
 resume_row c s =
     let more : List UpMsg = if s.suspends == 1 then up.Resume ∷ [] else [] in
     let n : length (s.sent ++ more) ≡ length s.sent + length more = length-append s.sent more in
     let m : length more ≤ 1 = one_or_none (s.suspends == 1) up.Resume in
-    row c 0 1 s _ _ refl (omega arith) (omega arith) (resumed_length s.queue)
+    let p : posted_work (resumed_once class_of s.queue).posted ≤ posted_work s.queue.posted + 1 = resumed_most s.queue in
+    row c 0 2 s _ _ refl (omega arith) (omega arith) (resumed_length s.queue)
 
 cancel_row : (c : ChannelPlan) (st : Status) (s : ChildState) → Row c 0 1 s (call_cancel st s)
 cancel_row c st s =
@@ -201,20 +221,20 @@ retarget_row : (c : ChannelPlan) (o : Option RetargetError) (w : ℕ) (s : Child
 retarget_row c (Some e) w s = row_most 1 (noted c (child.NoRetarget e) s) (omega arith)
 retarget_row c None w s = row c 0 1 s _ _ refl (omega arith) (omega arith) refl
 
-break_row : (c : ChannelPlan) (st : Status) (s : ChildState) → Row c 0 132 s (call_break c st s)
+break_row : (c : ChannelPlan) (st : Status) (s : ChildState) → Row c 0 136 s (call_break c st s)
 break_row c st s =
     let s1 : ChildState = record s { broken = true; kept = merged s.kept st; queue = cleared s.queue; journal = s.journal ++ child.Break st ∷ [] } in
     let a : Row c 0 0 s s1 = row c 0 0 s s1 (child.Break st ∷ []) refl (omega arith) (omega arith) refl in
-    keeps_if (λ es. Row c 0 132 s (offer_all c target.Main es s1)) (is_empty s.trace) (Start 0 st ∷ Stop st ∷ []) (Stop st ∷ [])
-    (λ r. row_then 0 132 a (offers_row c target.Main (Start 0 st ∷ Stop st ∷ []) s1) (omega arith))
-    (λ r. row_then 0 132 a (offers_row c target.Main (Stop st ∷ []) s1) (omega arith))
+    keeps_if (λ es. Row c 0 136 s (offer_all c target.Main es s1)) (is_empty s.trace) (Start 0 st ∷ Stop st ∷ []) (Stop st ∷ [])
+    (λ r. row_then 0 136 a (offers_row c target.Main (Start 0 st ∷ Stop st ∷ []) s1) (omega arith))
+    (λ r. row_then 0 136 a (offers_row c target.Main (Stop st ∷ []) s1) (omega arith))
 
 pub call_row : (c : ChannelPlan) (x : Act) (s : ChildState) → Row c 0 (call_cost x) s (perform_call c x s)
 call_row c act.Suspend s = keeps_if (Row c 0 1 s) s.stopped (with_entry child.NoEffect s) (call_suspend s) (λ r. row_most 1 (noted c child.NoEffect s) (omega arith)) (λ r. suspend_row c s)
-call_row c act.Resume s = keeps_if (Row c 0 1 s) (s.stopped || (s.suspends == 0)) (with_entry child.NoEffect s) (call_resume s) (λ r. row_most 1 (noted c child.NoEffect s) (omega arith)) (λ r. resume_row c s)
+call_row c act.Resume s = keeps_if (Row c 0 2 s) (s.stopped || (s.suspends == 0)) (with_entry child.NoEffect s) (call_resume s) (λ r. row_most 2 (noted c child.NoEffect s) (omega arith)) (λ r. resume_row c s)
 call_row c (act.Cancel st) s = keeps_if (Row c 0 1 s) (s.stopped || is_some s.kept) (with_entry child.NoEffect s) (call_cancel st s) (λ r. row_most 1 (noted c child.NoEffect s) (omega arith)) (λ r. cancel_row c st s)
 call_row c (act.Retarget w) s = retarget_row c (refusal c s) w s
-call_row c (act.Break st) s = keeps_if (Row c 0 132 s) (s.stopped || s.broken) (with_entry child.NoEffect s) (call_break c st s) (λ r. row_most 132 (noted c child.NoEffect s) (omega arith)) (λ r. break_row c st s)
+call_row c (act.Break st) s = keeps_if (Row c 0 136 s) (s.stopped || s.broken) (with_entry child.NoEffect s) (call_break c st s) (λ r. row_most 136 (noted c child.NoEffect s) (omega arith)) (λ r. break_row c st s)
 
 -- Messages of the two down lanes
 
@@ -225,26 +245,26 @@ redirect_row : (c : ChannelPlan) (l : StartLane) (h : ℕ) (s : ChildState) → 
 redirect_row c lane.Main h s = row_most 1 (row_same c s) (omega arith)
 redirect_row c lane.Back h s = note_row c h s
 
-pub main_row : (c : ChannelPlan) (m : MainMsg) (s : ChildState) → Row c 0 132 s (step_main c m s)
+pub main_row : (c : ChannelPlan) (m : MainMsg) (s : ChildState) → Row c 0 136 s (step_main c m s)
 main_row c (main.Start h st head) s =
-    let es : List ChildEvent = Start head.code st ∷ [] in row_then 0 132 (offers_row c target.Main es s) (note_row c h (offer_all c target.Main es s)) (omega arith)
-main_row c (main.FailedOpen h st) s = row_most 132 (offers_row c target.Main (Start 0 st ∷ Stop st ∷ []) s) (omega arith)
-main_row c (main.Redirect1 h code) s = row_most 132 (offers_row c target.Main (Redirect1 h ∷ []) s) (omega arith)
+    let es : List ChildEvent = Start head.code st ∷ [] in row_then 0 136 (offers_row c target.Main es s) (note_row c h (offer_all c target.Main es s)) (omega arith)
+main_row c (main.FailedOpen h st) s = row_most 136 (offers_row c target.Main (Start 0 st ∷ Stop st ∷ []) s) (omega arith)
+main_row c (main.Redirect1 h code) s = row_most 136 (offers_row c target.Main (Redirect1 h ∷ []) s) (omega arith)
 main_row c (main.Redirect3 h) s =
-    let es : List ChildEvent = Redirect3 h ∷ [] in row_then 0 132 (offers_row c target.Main es s) (redirect_row c c.start (suc h) (offer_all c target.Main es s)) (omega arith)
+    let es : List ChildEvent = Redirect3 h ∷ [] in row_then 0 136 (offers_row c target.Main es s) (redirect_row c c.start (suc h) (offer_all c target.Main es s)) (omega arith)
 
-keep_row : (c : ChannelPlan) (m : BackMsg) (s : ChildState) → Row c 0 67 s (keep_back m s)
+keep_row : (c : ChannelPlan) (m : BackMsg) (s : ChildState) → Row c 0 68 s (keep_back m s)
 keep_row c m s =
     let n : length (s.hold.kept ++ m ∷ []) ≡ length s.hold.kept + 1 = length-append s.hold.kept (m ∷ []) in
     record { less = omega arith; sent = omega arith; mains = omega arith; backs = omega arith; posted = refl }
 
-hold_row : (c : ChannelPlan) (m : BackMsg) (s : ChildState) → length (back_events_of m) ≤ 1 → Row c 0 67 s (hold_back c m s)
+hold_row : (c : ChannelPlan) (m : BackMsg) (s : ChildState) → length (back_events_of m) ≤ 1 → Row c 0 68 s (hold_back c m s)
 hold_row c m s l =
-    keeps_if (Row c 0 67 s) (is_among s.hold.released (back_hop m)) (offer_all c target.Back (back_events_of m) s) (keep_back m s)
-    (λ r. row_most 67 (offers_row c target.Back (back_events_of m) s) (omega arith)) (λ r. keep_row c m s)
+    keeps_if (Row c 0 68 s) (is_among s.hold.released (back_hop m)) (offer_all c target.Back (back_events_of m) s) (keep_back m s)
+    (λ r. row_most 68 (offers_row c target.Back (back_events_of m) s) (omega arith)) (λ r. keep_row c m s)
 
-pub back_row : (c : ChannelPlan) (m : BackMsg) (s : ChildState) → Row c 0 67 s (step_back c m s)
-back_row c (back.StartSent h) s = row_most 67 (row_same c s) (omega arith)
+pub back_row : (c : ChannelPlan) (m : BackMsg) (s : ChildState) → Row c 0 68 s (step_back c m s)
+back_row c (back.StartSent h) s = row_most 68 (row_same c s) (omega arith)
 back_row c (back.Start h st head) s = hold_row c (back.Start h st head) s (omega arith)
 back_row c (back.Bytes h st o p) s = hold_row c (back.Bytes h st o p) s (omega arith)
 back_row c (back.Stop h st trailers) s = hold_row c (back.Stop h st trailers) s (omega arith)
@@ -262,28 +282,34 @@ reactions_row : (c : ChannelPlan) (rs : List Reaction) (s : ChildState) → Row 
 reactions_row c [] s = row_same c s
 reactions_row c (r ∷ rs) s = row_then 0 (suc (length rs)) (reacted_row c r s) (reactions_row c rs (react c r s)) (omega arith)
 
-unforced_row : (c : ChannelPlan) (t : Target) (s : ChildState) → Row c 0 0 s (end_forced t s)
-unforced_row c t s = queued c 0 s (unforced s.queue t) (omega arith) refl
+unforced_row : (c : ChannelPlan) (t : Target) (s : ChildState) → Row c 0 1 s (end_forced t s)
+unforced_row c t s =
+    let f : flush_work (unforced s.queue t).flushing ≤ flush_work s.queue.flushing + 1 = flush_then (unforced_answer s.queue) t s.queue.flushing in
+    queued c 1 s (unforced s.queue t) (omega arith) refl
 
-prepend_row : (c : ChannelPlan) (st : Status) (s : ChildState) → Row c 0 2 s (prepend_cancel st s)
-prepend_row c st s = row c 0 2 s _ _ refl (omega arith) (omega arith) (resumed_length (prepended (suspended_once s.queue) (Cancel st)))
+prepend_row : (c : ChannelPlan) (st : Status) (s : ChildState) → Row c 0 3 s (prepend_cancel st s)
+prepend_row c st s =
+    let q : Queue ChildEvent = prepended (suspended_once s.queue) (Cancel st) in
+    let p : posted_work (resumed_once class_of q).posted ≤ posted_work s.queue.posted + 1 = resumed_most q in
+    row c 0 3 s _ _ refl (omega arith) (omega arith) (resumed_length q)
 
-failed_row : (c : ChannelPlan) (t : Target) (o : Option Status) (s : ChildState) → Row c 0 2 s (fail_data c t o s)
-failed_row c t None s = row_most 2 (row_same c s) (omega arith)
+failed_row : (c : ChannelPlan) (t : Target) (o : Option Status) (s : ChildState) → Row c 0 3 s (fail_data c t o s)
+failed_row c t None s = row_most 3 (row_same c s) (omega arith)
 failed_row c t (Some st) s =
-    keeps_if (Row c 0 2 s) (same_target t target.Main) (perform_call c (act.Cancel st) s) (prepend_cancel st s)
-    (λ r. row_most 2 (call_row c (act.Cancel st) s) (omega arith)) (λ r. prepend_row c st s)
+    keeps_if (Row c 0 3 s) (same_target t target.Main) (perform_call c (act.Cancel st) s) (prepend_cancel st s)
+    (λ r. row_most 3 (call_row c (act.Cancel st) s) (omega arith))
+    (λ r. prepend_row c st s)
 
 sent_row : (c : ChannelPlan) (m : UpMsg) (s : ChildState) → Row c 0 1 s (record s { sent = s.sent ++ m ∷ [] })
 sent_row c m s =
     let n : length (s.sent ++ m ∷ []) ≡ length s.sent + 1 = length-append s.sent (m ∷ []) in
     record { less = omega arith; sent = omega arith; mains = omega arith; backs = omega arith; posted = refl }
 
-pub finished_row : (c : ChannelPlan) (t : Target) (e : ChildEvent) (s : ChildState) → length c.reactions ≤ 64 → Row c 0 64 s (finish_event c t e s)
-finished_row c t (Start code st) s l = row_then 0 64 (reactions_row c c.reactions s) (unforced_row c t (react_all c c.reactions s)) (omega arith)
+pub finished_row : (c : ChannelPlan) (t : Target) (e : ChildEvent) (s : ChildState) → length c.reactions ≤ 64 → Row c 0 65 s (finish_event c t e s)
+finished_row c t (Start code st) s l = row_then 0 65 (reactions_row c c.reactions s) (unforced_row c t (react_all c c.reactions s)) (omega arith)
 finished_row c t (Bytes o p st) s l =
-    row_then 0 64 (sent_row c (up.BytesRead (length p)) s) (failed_row c t (bytes_failure c.reactions s.data_begun) (record s { sent = s.sent ++ up.BytesRead (length p) ∷ [] })) (omega arith)
-finished_row c t (Stop st) s l = row_then 0 64 (sent_row c up.Deleting s) (unforced_row c t (record s { sent = s.sent ++ up.Deleting ∷ [] })) (omega arith)
-finished_row c t (Redirect1 h) s l = row_most 64 (row_same c s) (omega arith)
-finished_row c t (Redirect3 h) s l = row_most 64 (row_same c s) (omega arith)
-finished_row c t (Cancel st) s l = row_most 64 (row_same c s) (omega arith)
+    row_then 0 65 (sent_row c (up.BytesRead (length p)) s) (failed_row c t (bytes_failure c.reactions s.data_begun) (record s { sent = s.sent ++ up.BytesRead (length p) ∷ [] })) (omega arith)
+finished_row c t (Stop st) s l = row_then 0 65 (sent_row c up.Deleting s) (unforced_row c t (record s { sent = s.sent ++ up.Deleting ∷ [] })) (omega arith)
+finished_row c t (Redirect1 h) s l = row_most 65 (row_same c s) (omega arith)
+finished_row c t (Redirect3 h) s l = row_most 65 (row_same c s) (omega arith)
+finished_row c t (Cancel st) s l = row_most 65 (row_same c s) (omega arith)

@@ -44,7 +44,7 @@ pub record Reached (c : ChannelPlan) (w : Channel) : Type 0 where
 
 -- k, n, f, h, m, b and u are the child's work, what it sent, the fetches, and the four lanes, before and after
 sums : (k k' n n' g f h m m' b b' u u' : ℕ) → k + n + g ≤ k' + n' + 0 → m ≤ m' → b ≤ b' → u + n' ≤ u' + n
-    → f + 133 * m + 69 * h + 68 * b + u + k + g ≤ f + 133 * m' + 69 * h + 68 * b' + u' + k'
+    → f + 137 * m + 70 * h + 69 * b + u + k + g ≤ f + 137 * m' + 70 * h + 69 * b' + u' + k'
 sums k k' n n' g f h m m' b b' u u' x y z v = omega arith
 
 row_lanes : (c : ChannelPlan) (w : Channel) (s : ChildState) (u : ℕ) → Row c u 0 w.child s → work c (record w { child = s }) + u ≤ work c w
@@ -53,7 +53,7 @@ row_lanes c w s u r =
     let b : length (drop (length (backs_taken s.journal)) (take w.forwarded (backs_sent w.parent.journal))) ≤ length (back_lane w) = drop_less (take w.forwarded (backs_sent w.parent.journal)) (length (backs_taken w.child.journal)) (length (backs_taken s.journal)) r.backs in
     let n : length (drop (length (ups_taken w.parent.journal)) s.sent) + length w.child.sent ≤ length (up_lane w) + length s.sent = drop_longer w.child.sent s.sent (length (ups_taken w.parent.journal)) r.sent in
     let k : child_work c s + length s.sent + u ≤ child_work c w.child + length w.child.sent + 0 = r.less in
-    sums (child_work c s) (child_work c w.child) (length s.sent) (length w.child.sent) u (203 * fetches_left c w.parent) (length (half_lane w)) _ _ _ _ _ _ k m b n
+    sums (child_work c s) (child_work c w.child) (length s.sent) (length w.child.sent) u (208 * fetches_left c w.parent) (length (half_lane w)) _ _ _ _ _ _ k m b n
 
 sinks_falls : (c : ChannelPlan) (w : Channel) (s : ChildState) → Sinks c w.child s → Falls c (record w { child = s }) w
 sinks_falls c w s (inl r) = let l : work c (record w { child = s }) + 1 ≤ work c w = row_lanes c w s 1 r in inl (omega arith)
@@ -69,15 +69,15 @@ child_falls c x w n a r e = sinks_falls c w (child_step c x w.child) (child_sink
 more_than : (a b n : ℕ) → suc a ≤ b → b ≤ n → suc a ≤ n
 more_than a b n x y = omega arith
 
-main_sums : (k k' n n' f h m m' b b' u u' : ℕ) → k + n + 0 ≤ k' + n' + 132 → suc m ≤ m' → b ≤ b' → u + n' ≤ u' + n
-    → f + 133 * m + 69 * h + 68 * b + u + k < f + 133 * m' + 69 * h + 68 * b' + u' + k'
+main_sums : (k k' n n' f h m m' b b' u u' : ℕ) → k + n + 0 ≤ k' + n' + 136 → suc m ≤ m' → b ≤ b' → u + n' ≤ u' + n
+    → f + 137 * m + 70 * h + 69 * b + u + k < f + 137 * m' + 70 * h + 69 * b' + u' + k'
 main_sums k k' n n' f h m m' b b' u u' x y z v = omega arith
 
-back_sums : (k k' n n' f h m m' b b' u u' : ℕ) → k + n + 0 ≤ k' + n' + 67 → m ≤ m' → suc b ≤ b' → u + n' ≤ u' + n
-    → f + 133 * m + 69 * h + 68 * b + u + k < f + 133 * m' + 69 * h + 68 * b' + u' + k'
+back_sums : (k k' n n' f h m m' b b' u u' : ℕ) → k + n + 0 ≤ k' + n' + 68 → m ≤ m' → suc b ≤ b' → u + n' ≤ u' + n
+    → f + 137 * m + 70 * h + 69 * b + u + k < f + 137 * m' + 70 * h + 69 * b' + u' + k'
 back_sums k k' n n' f h m m' b b' u u' x y z v = omega arith
 
-took_main : (c : ChannelPlan) (w : Channel) (m : MainMsg) (ms : List MainMsg) (s : ChildState) → main_lane w ≡ m ∷ ms → Row c 0 132 (with_entry (entry.TookMain m) w.child) s
+took_main : (c : ChannelPlan) (w : Channel) (m : MainMsg) (ms : List MainMsg) (s : ChildState) → main_lane w ≡ m ∷ ms → Row c 0 136 (with_entry (entry.TookMain m) w.child) s
     → work c (record w { child = s }) < work c w
 took_main c w m ms s e r =
     let old = w.child in
@@ -90,9 +90,9 @@ took_main c w m ms s e r =
     let lm : suc (length (drop (length (mains_taken s.journal)) (mains_sent w.parent.journal))) ≤ length (main_lane w) = drop_next (mains_sent w.parent.journal) ms m (length (mains_taken old.journal)) (length (mains_taken s.journal)) e gm in
     let lb : length (drop (length (backs_taken s.journal)) (take w.forwarded (backs_sent w.parent.journal))) ≤ length (back_lane w) = drop_less (take w.forwarded (backs_sent w.parent.journal)) (length (backs_taken old.journal)) (length (backs_taken s.journal)) gb in
     let lu : length (drop (length (ups_taken w.parent.journal)) s.sent) + length old.sent ≤ length (up_lane w) + length s.sent = drop_longer old.sent s.sent (length (ups_taken w.parent.journal)) r.sent in
-    main_sums (child_work c s) (child_work c old) (length s.sent) (length old.sent) (203 * fetches_left c w.parent) (length (half_lane w)) _ _ _ _ _ _ r.less lm lb lu
+    main_sums (child_work c s) (child_work c old) (length s.sent) (length old.sent) (208 * fetches_left c w.parent) (length (half_lane w)) _ _ _ _ _ _ r.less lm lb lu
 
-took_back : (c : ChannelPlan) (w : Channel) (m : BackMsg) (ms : List BackMsg) (s : ChildState) → back_lane w ≡ m ∷ ms → Row c 0 67 (with_entry (entry.TookBack m) w.child) s
+took_back : (c : ChannelPlan) (w : Channel) (m : BackMsg) (ms : List BackMsg) (s : ChildState) → back_lane w ≡ m ∷ ms → Row c 0 68 (with_entry (entry.TookBack m) w.child) s
     → work c (record w { child = s }) < work c w
 took_back c w m ms s e r =
     let old = w.child in
@@ -105,7 +105,7 @@ took_back c w m ms s e r =
     let lm : length (drop (length (mains_taken s.journal)) (mains_sent w.parent.journal)) ≤ length (main_lane w) = drop_less (mains_sent w.parent.journal) (length (mains_taken old.journal)) (length (mains_taken s.journal)) gm in
     let lb : suc (length (drop (length (backs_taken s.journal)) (take w.forwarded (backs_sent w.parent.journal)))) ≤ length (back_lane w) = drop_next (take w.forwarded (backs_sent w.parent.journal)) ms m (length (backs_taken old.journal)) (length (backs_taken s.journal)) e gb in
     let lu : length (drop (length (ups_taken w.parent.journal)) s.sent) + length old.sent ≤ length (up_lane w) + length s.sent = drop_longer old.sent s.sent (length (ups_taken w.parent.journal)) r.sent in
-    back_sums (child_work c s) (child_work c old) (length s.sent) (length old.sent) (203 * fetches_left c w.parent) (length (half_lane w)) _ _ _ _ _ _ r.less lm lb lu
+    back_sums (child_work c s) (child_work c old) (length s.sent) (length old.sent) (208 * fetches_left c w.parent) (length (half_lane w)) _ _ _ _ _ _ r.less lm lb lu
 
 -- a child that is not broken takes the message
 taken_by : (broken some : Bool) (P : ChildState → Type 0) (s x : ChildState) → (not broken && some) ≡ true → P x → P (if broken then s else x)
@@ -130,7 +130,7 @@ back_falls c w (m ∷ ms) e h =
 
 -- The parent's steps
 
-up_sums : (f f' k h m b u u' : ℕ) → f ≤ f' → suc u ≤ u' → 203 * f + 133 * m + 69 * h + 68 * b + u + k < 203 * f' + 133 * m + 69 * h + 68 * b + u' + k
+up_sums : (f f' k h m b u u' : ℕ) → f ≤ f' → suc u ≤ u' → 208 * f + 137 * m + 70 * h + 69 * b + u + k < 208 * f' + 137 * m + 70 * h + 69 * b + u' + k
 up_sums f f' k h m b u u' x y = omega arith
 
 -- lists as long give lanes as long
@@ -153,12 +153,12 @@ up_falls : (c : ChannelPlan) (w : Channel) (l : List UpMsg) → up_lane w ≡ l 
 up_falls c w [] e h = cc
 up_falls c w (m ∷ ms) e h = inl (took_up c w m ms (parent_step c (parent.Up m) w.parent) e (up_heard c m w.parent))
 
-fetch_sums : (f f' k m m' h h' b b' u u' : ℕ) → f < f' → m ≤ m' + 1 → 69 * h + 68 * b ≤ 69 * h' + 68 * b' + 69 → u ≤ u'
-    → 203 * f + 133 * m + 69 * h + 68 * b + u + k < 203 * f' + 133 * m' + 69 * h' + 68 * b' + u' + k
+fetch_sums : (f f' k m m' h h' b b' u u' : ℕ) → f < f' → m ≤ m' + 1 → 70 * h + 69 * b ≤ 70 * h' + 69 * b' + 70 → u ≤ u'
+    → 208 * f + 137 * m + 70 * h + 69 * b + u + k < 208 * f' + 137 * m' + 70 * h' + 69 * b' + u' + k
 fetch_sums f f' k m m' h h' b b' u u' x y z v = omega arith
 
 -- one more message for the half: it waits there, or goes on at once
-half_more : (n n' f t : ℕ) → n ≤ n' → n' ≤ suc n → 69 * (n' - f) + 68 * (min f n' - t) ≤ 69 * (n - f) + 68 * (min f n - t) + 69
+half_more : (n n' f t : ℕ) → n ≤ n' → n' ≤ suc n → 70 * (n' - f) + 69 * (min f n' - t) ≤ 70 * (n - f) + 69 * (min f n - t) + 70
 half_more n n' f t x y = omega arith
 
 sent_falls : (c : ChannelPlan) (w : Channel) (p : ParentState) → Fetched c w.parent p → work c (record w { parent = p }) < work c w
@@ -169,10 +169,10 @@ sent_falls c w p g =
     let bt : ℕ = length (backs_taken w.child.journal) in
     let a0 : length (mains_sent p.journal) ≤ suc (length (mains_sent old.journal)) = a.mains_most in
     let lm : length (drop mt (mains_sent p.journal)) ≤ length (main_lane w) + 1 = omega (arith, length-drop mt (mains_sent p.journal), length-drop mt (mains_sent old.journal)) in
-    let half : 69 * (length (backs_sent p.journal) - w.forwarded) + 68 * (min w.forwarded (length (backs_sent p.journal)) - bt)
-    ≤ 69 * (length (backs_sent old.journal) - w.forwarded) + 68 * (min w.forwarded (length (backs_sent old.journal)) - bt) + 69
+    let half : 70 * (length (backs_sent p.journal) - w.forwarded) + 69 * (min w.forwarded (length (backs_sent p.journal)) - bt)
+    ≤ 70 * (length (backs_sent old.journal) - w.forwarded) + 69 * (min w.forwarded (length (backs_sent old.journal)) - bt) + 70
     = half_more (length (backs_sent old.journal)) (length (backs_sent p.journal)) w.forwarded bt a.backs_least a.backs_most in
-    let lb : 69 * length (drop w.forwarded (backs_sent p.journal)) + 68 * length (drop bt (take w.forwarded (backs_sent p.journal))) ≤ 69 * length (half_lane w) + 68 * length (back_lane w) + 69 =
+    let lb : 70 * length (drop w.forwarded (backs_sent p.journal)) + 69 * length (drop bt (take w.forwarded (backs_sent p.journal))) ≤ 70 * length (half_lane w) + 69 * length (back_lane w) + 70 =
     rw (
       length-drop w.forwarded (backs_sent p.journal),
       length-drop w.forwarded (backs_sent old.journal),
@@ -186,7 +186,7 @@ sent_falls c w p g =
 
 -- a message moves on from the half
 
-moved_sums : (g k h h' b b' u : ℕ) → suc h ≤ h' → b ≤ b' + 1 → g + 69 * h + 68 * b + u + k < g + 69 * h' + 68 * b' + u + k
+moved_sums : (g k h h' b b' u : ℕ) → suc h ≤ h' → b ≤ b' + 1 → g + 70 * h + 69 * b + u + k < g + 70 * h' + 69 * b' + u + k
 moved_sums g k h h' b b' u x y = omega arith
 
 forward_falls : (c : ChannelPlan) (w : Channel) → nat_lt w.forwarded (length (backs_sent w.parent.journal)) ≡ true → Falls c (forward_step w) w
@@ -200,7 +200,7 @@ forward_falls c w e =
     let tt0 : length (take (suc w.forwarded) bs) ≤ length (take w.forwarded bs) + 1 = omega arith in
     let lb : length (drop bt (take (suc w.forwarded) bs)) ≤ length (drop bt (take w.forwarded bs)) + 1 = omega (arith, length-drop bt (take w.forwarded bs), length-drop bt (take (suc w.forwarded) bs)) in
     keeps_if (λ x. Falls c x w) (nat_lt w.forwarded (length bs)) (record w { forwarded = suc w.forwarded }) w
-    (λ r. inl (moved_sums (203 * fetches_left c w.parent + 133 * length (main_lane w)) (child_work c w.child) _ _ _ _ (length (up_lane w)) lh lb))
+    (λ r. inl (moved_sums (208 * fetches_left c w.parent + 137 * length (main_lane w)) (child_work c w.child) _ _ _ _ (length (up_lane w)) lh lb))
     (λ r. let no : true ≡ false = sym e ∙ r in absurd (cc))
 
 -- All steps

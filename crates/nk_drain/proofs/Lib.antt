@@ -7,4 +7,6 @@ pub mod ParentFalls
 pub mod QueueFalls
 pub mod Reach
 pub mod Rooms
+pub mod Rounds
+pub mod Rows
 pub mod Tools

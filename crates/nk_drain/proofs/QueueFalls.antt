@@ -1,10 +1,12 @@
--- A flush that ends or goes over to another target, and a posted task that is done, lower the queue's number.
+-- A flush that goes over to another target, and a posted task that is done, lower the queue's number. That is at most four
+-- times the queue's work.
 use Rattle.std.proofs.Common.{ℕ, zero, suc, ◌≡◌, ◌+◌, ◌-◌, ◌*◌, ◌<◌, ◌≤◌, ◌∙◌, ◌⊎◌, inl, inr, refl, ap, List, [], ◌∷◌, length, Bool, true, false, ◌&&◌, if◌then◌else◌, Option, Some, None, nat_le, ◌==◌, slice_index, set, arith, eqb-true, eq-eqb}
 use Rattle.std.proofs.lemmas.Bool.Decides.{nat_tests}
 use Rattle.nk_base.specs.declared.status.Target.{Target}
 use Rattle.nk_base.specs.declared.status.Target.TheVariants as target
-use Rattle.nk_base.specs.Queue.{same_target, is_target, target_number, raised, lowered}
-use Rattle.nk_drain.specs.Work.{by_first, flush_number, posted_number}
+use Rattle.nk_base.specs.Queue.{Queue, same_target, is_target, target_number, raised, lowered}
+use Rattle.nk_plan.specs.declared.event.ChildEvent.{ChildEvent}
+use Rattle.nk_drain.specs.Work.{flush_work, posted_work, queue_work, first_runs_on, by_first, flush_number, posted_number, queue_number}
 use Rattle.nk_drain.proofs.Tools.{by_bool}
 
 -- Targets that are not the same have numbers of their own, but where they are workers outside 1 to 16
@@ -91,12 +93,46 @@ set_past [] i v l = refl
 set_past (n ∷ ns) zero v l = absurd (omega arith)
 set_past (n ∷ ns) (suc i) v l = ap (λ t. n ∷ t) (set_past ns i v (omega arith))
 
--- The three turns of a queue that run no event
+-- How much queue work is done or added
 
--- a flush ends
-pub ended_falls : (f o : Option Target) (t : Target) → is_target o t ≡ true → 0 < flush_number f o
-ended_falls f None t e = cc
-ended_falls f (Some u) t e = elim (first_or_other f (target_number u)) [ inl h ↦ omega (arith, h 1 3) | inr h ↦ omega (arith, h 1 3) ]
+pub raised_work : (p : List ℕ) (i : ℕ) → posted_work (set p i (slice_index p i + 1)) ≤ posted_work p + 1
+raised_work [] i = omega arith
+raised_work (n ∷ ns) zero = omega arith
+raised_work (n ∷ ns) (suc i) = let h : posted_work (set ns i (slice_index ns i + 1)) ≤ posted_work ns + 1 = raised_work ns i in omega arith
+
+pub lowered_work : (p : List ℕ) (i : ℕ) → 0 < slice_index p i → posted_work (set p i (slice_index p i - 1)) + 1 ≡ posted_work p
+lowered_work [] i l = absurd (omega arith)
+lowered_work (n ∷ ns) zero l = omega arith
+lowered_work (n ∷ ns) (suc i) l = let h : posted_work (set ns i (slice_index ns i - 1)) + 1 ≡ posted_work ns = lowered_work ns i l in omega arith
+
+pub flush_most : (o : Option Target) → flush_work o ≤ 1
+flush_most None = omega arith
+flush_most (Some t) = omega arith
+
+pub flush_is : (o : Option Target) (t : Target) → is_target o t ≡ true → flush_work o ≡ 1
+flush_is None t e = cc
+flush_is (Some u) t e = refl
+
+-- The queue's number is at most four times its work
+
+posted_most : (f : Option Target) (k : ℕ) (p : List ℕ) → posted_number f k p ≤ 4 * posted_work p
+posted_most f k [] = omega arith
+posted_most f k (n ∷ ns) =
+    let h : posted_number f (suc k) ns ≤ 4 * posted_work ns = posted_most f (suc k) ns in
+    elim (first_or_other f k) [ inl g ↦ omega (arith, g (2 * n) (4 * n)) | inr g ↦ omega (arith, g (2 * n) (4 * n)) ]
+
+flush_number_most : (f o : Option Target) → flush_number f o ≤ 4 * flush_work o
+flush_number_most f None = omega arith
+flush_number_most f (Some t) = elim (first_or_other f (target_number t)) [ inl g ↦ omega (arith, g 1 3) | inr g ↦ omega (arith, g 1 3) ]
+
+pub number_most : (q : Queue ChildEvent) → queue_number q ≤ 4 * queue_work q
+number_most q =
+    let f : Option Target = first_runs_on q.data_target q.waiting in
+    let a : flush_number f q.flushing ≤ 4 * flush_work q.flushing = flush_number_most f q.flushing in
+    let b : posted_number f 0 q.posted ≤ 4 * posted_work q.posted = posted_most f 0 q.posted in
+    omega arith
+
+-- The two turns of a queue that leave its work as it is
 
 -- a flush goes over to the target of the first event, which is not its own
 pub over_falls : (u t : Target) (o : Option Target) (p : List ℕ) → length p ≡ 18 → same_target u t ≡ false → is_target o t ≡ true

@@ -1,5 +1,6 @@
--- What is known of each channel that steps lead to, and what follows for it: no step adds work, and a round falls.
-use Rattle.std.proofs.Common.{ℕ, suc, ◌≡◌, ◌<◌, ◌≤◌, ◌∙◌, ◌⊎◌, inl, inr, refl, sym, ap, subst, List, [], ◌∷◌, ◌++◌, length, true, nat_lt, arith}
+-- What is known of each channel that steps lead to holds in each; so each step that is enabled leaves it less to do, and no
+-- step adds work.
+use Rattle.std.proofs.Common.{ℕ, suc, ◌≡◌, ◌<◌, ◌≤◌, ◌∙◌, inl, inr, refl, ap, List, [], ◌∷◌, length, true, nat_lt, arith}
 use Rattle.nk_base.specs.declared.message.MainMsg.{MainMsg}
 use Rattle.nk_base.specs.declared.message.BackMsg.{BackMsg}
 use Rattle.nk_base.specs.declared.message.UpMsg.{UpMsg}
@@ -15,14 +16,14 @@ use Rattle.nk_plan.specs.Journal.{backs_sent}
 use Rattle.nk_plan.specs.Child.{ChildState, with_entry, step_main, step_back, child_step}
 use Rattle.nk_plan.specs.Channel.{Channel, main_lane, back_lane, up_lane, up_step, main_step, back_step, channel_step, new_channel, channel_after}
 use Rattle.nk_plan.specs.Enabled.{child_enabled, channel_enabled}
-use Rattle.nk_drain.specs.Work.{work, queue_number, Falls}
-use Rattle.nk_drain.specs.Laws.{SomeEnabled}
+use Rattle.nk_drain.specs.Work.{half_lane, work, Falls}
 use Rattle.nk_drain.proofs.Tools.{keeps_if, by_bool}
 use Rattle.nk_drain.proofs.Idle.{child_idle, idle}
 use Rattle.nk_drain.proofs.ParentFalls.{first_there, up_placed, step_placed}
 use Rattle.nk_drain.proofs.ChildRows.{Row, main_row, back_row}
 use Rattle.nk_drain.proofs.ChildFalls.{Sinks, TakesNone, child_sinks}
 use Rattle.nk_drain.proofs.Falls.{Reached, step_falls}
+use Rattle.nk_drain.proofs.Rooms.{starts, lanes}
 
 -- A child's step keeps the number of its queue's targets
 
@@ -38,13 +39,13 @@ plain_length c x s n a l =
 main_length : (c : ChannelPlan) (m : MainMsg) (s : ChildState) → length s.queue.posted ≡ 18 → length (child_step c (child.Main m) s).queue.posted ≡ 18
 main_length c m s l =
     let s1 : ChildState = with_entry (entry.TookMain m) s in
-    let r : Row c 0 132 s1 (step_main c m s1) = main_row c m s1 in
+    let r : Row c 0 136 s1 (step_main c m s1) = main_row c m s1 in
     keeps_if (λ (y : ChildState). length y.queue.posted ≡ 18) s.broken s (step_main c m s1) (λ e. l) (λ e. r.posted ∙ l)
 
 back_length : (c : ChannelPlan) (m : BackMsg) (s : ChildState) → length s.queue.posted ≡ 18 → length (child_step c (child.Back m) s).queue.posted ≡ 18
 back_length c m s l =
     let s1 : ChildState = with_entry (entry.TookBack m) s in
-    let r : Row c 0 67 s1 (step_back c m s1) = back_row c m s1 in
+    let r : Row c 0 68 s1 (step_back c m s1) = back_row c m s1 in
     keeps_if (λ (y : ChildState). length y.queue.posted ≡ 18) s.broken s (step_back c m s1) (λ e. l) (λ e. r.posted ∙ l)
 
 -- Each step leads on
@@ -94,6 +95,9 @@ same m n e = omega arith
 trans : (k m n : ℕ) → k ≤ m → m ≤ n → k ≤ n
 trans k m n a b = omega arith
 
+below : (m n : ℕ) → m ≤ n → n < 16777216 → m < 16777216
+below m n a b = omega arith
+
 pub falls : (c : ChannelPlan) (steps : List Step) (x : Step) → Accepted c → channel_enabled c x (channel_after c steps) ≡ true → Falls c (channel_step c x (channel_after c steps)) (channel_after c steps)
 falls c steps x a e = step_falls c x (channel_after c steps) a (reached c steps a) e
 
@@ -111,57 +115,20 @@ pub within_start : (c : ChannelPlan) (steps : List Step) → Accepted c → work
 within_start c [] a = same (work c (new_channel c)) (work c (new_channel c)) refl
 within_start c (x ∷ xs) a = trans (work c (channel_after c (x ∷ xs))) (work c (channel_after c xs)) (work c (new_channel c)) (no_more c xs x a) (within_start c xs a)
 
--- A round
+pub small : (c : ChannelPlan) (steps : List Step) → Accepted c → work c (channel_after c steps) < 16777216
+small c steps a = below (work c (channel_after c steps)) (work c (new_channel c)) (within_start c steps a) (starts c a)
 
-pairs : (a b d p q r : ℕ) → (a < b) ⊎ ((a ≡ b) × (p < q)) → (b < d) ⊎ ((b ≡ d) × (q < r)) → (a < d) ⊎ ((a ≡ d) × (p < r))
-pairs a b d p q r (inl x) (inl y) = inl (omega arith)
-pairs a b d p q r (inl x) (inr (y, z)) = inl (omega arith)
-pairs a b d p q r (inr (x, z)) (inl y) = inl (omega arith)
-pairs a b d p q r (inr (x, z)) (inr (y, v)) = inr (omega arith, omega arith)
-
-falls_then : (c : ChannelPlan) (u v w : Channel) → Falls c u v → Falls c v w → Falls c u w
-falls_then c u v w a b = pairs (work c u) (work c v) (work c w) (queue_number u.child.queue) (queue_number v.child.queue) (queue_number w.child.queue) a b
-
-falls_or_same : (c : ChannelPlan) (xs steps : List Step) → Accepted c → Falls c (channel_after c (xs ++ steps)) (channel_after c steps) ⊎ (channel_after c (xs ++ steps) ≡ channel_after c steps)
-falls_or_same c [] steps a = inr refl
-falls_or_same c (x ∷ xs) steps a =
+pub rooms : (c : ChannelPlan) (steps : List Step) → Accepted c →
+    (length (main_lane (channel_after c steps)) < 16777216)
+    × (length (half_lane (channel_after c steps)) < 16777216)
+    × (length (back_lane (channel_after c steps)) < 16777216)
+    × (length (up_lane (channel_after c steps)) < 16777216)
+rooms c steps a =
     let w = channel_after c steps in
-    let v = channel_after c (xs ++ steps) in
-    by_bool (channel_enabled c x v)
-    (λ e. elim (falls_or_same c xs steps a) [
-      | inl f ↦ inl (falls_then c (channel_step c x v) v w (falls c (xs ++ steps) x a e) f)
-      | inr s ↦ inl (subst (λ (y : Channel). Falls c (channel_step c x v) y) s (falls c (xs ++ steps) x a e))
-    ])
-    (λ e. elim (falls_or_same c xs steps a) [
-      | inl f ↦ inl (subst (λ (y : Channel). Falls c y w) (sym (idle c x v e)) f)
-      | inr s ↦ inr (idle c x v e ∙ s)
-    ])
-
-round_falls : (c : ChannelPlan) (xs steps : List Step) → Accepted c → SomeEnabled c xs steps → Falls c (channel_after c (xs ++ steps)) (channel_after c steps)
-round_falls c [] steps a h = absurd h
-round_falls c (x ∷ xs) steps a (inl e) =
-    let w = channel_after c steps in
-    let v = channel_after c (xs ++ steps) in
-    let f : Falls c (channel_step c x v) v = falls c (xs ++ steps) x a e in
-    elim (falls_or_same c xs steps a) [
-      | inl g ↦ falls_then c (channel_step c x v) v w f g
-      | inr s ↦ subst (λ (y : Channel). Falls c (channel_step c x v) y) s f
-    ]
-round_falls c (x ∷ xs) steps a (inr h) =
-    let w = channel_after c steps in
-    let v = channel_after c (xs ++ steps) in
-    let g : Falls c v w = round_falls c xs steps a h in
-    by_bool (channel_enabled c x v)
-    (λ e. falls_then c (channel_step c x v) v w (falls c (xs ++ steps) x a e) g)
-    (λ e. subst (λ (y : Channel). Falls c y w) (sym (idle c x v e)) g)
-
-round_idle : (c : ChannelPlan) (xs steps : List Step) → (SomeEnabled c xs steps → ⊥) → channel_after c (xs ++ steps) ≡ channel_after c steps
-round_idle c [] steps n = refl
-round_idle c (x ∷ xs) steps n =
-    let v = channel_after c (xs ++ steps) in
-    by_bool (channel_enabled c x v) (λ e. absurd (n (inl e))) (λ e. idle c x v e ∙ round_idle c xs steps (λ h. n (inr h)))
-
-pub round : (c : ChannelPlan) (xs steps : List Step) → Accepted c →
-    (SomeEnabled c xs steps → Falls c (channel_after c (xs ++ steps)) (channel_after c steps))
-    × ((SomeEnabled c xs steps → ⊥) → channel_after c (xs ++ steps) ≡ channel_after c steps)
-round c xs steps a = (round_falls c xs steps a, round_idle c xs steps)
+    let l : (length (main_lane w) ≤ work c w) × (length (half_lane w) ≤ work c w) × (length (back_lane w) ≤ work c w) × (length (up_lane w) ≤ work c w) = lanes c w in
+    let n : work c w < 16777216 = small c steps a in (
+      below (length (main_lane w)) (work c w) l.0 n,
+      below (length (half_lane w)) (work c w) l.1 n,
+      below (length (back_lane w)) (work c w) l.2 n,
+      below (length (up_lane w)) (work c w) l.3 n,
+    )

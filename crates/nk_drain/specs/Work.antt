@@ -1,5 +1,6 @@
--- How much a channel has still to do: a sum that every step lowers, but for those that only pass the queue's turn; and a
--- number of the queue that these lower. This project's own; any other measure that falls would do as well.
+-- How many steps a channel has left at most. Its work is a sum that no step raises; a step that leaves the work as it is
+-- passes on the turn of the child's queue, and so lowers the queue's number. This project's own; any other measure that
+-- every step lowers would do as well.
 use Rattle.std.specs.Prelude.{ℕ, suc, ◌≡◌, ◌+◌, ◌-◌, ◌*◌, ◌<◌, ◌⊎◌, ◌==◌, Bool, true, false, if◌then◌else◌, List, [], ◌∷◌, length, drop, Option, Some, None}
 use Rattle.nk_base.specs.declared.status.Target.{Target}
 use Rattle.nk_base.specs.declared.message.BackMsg.{BackMsg}
@@ -17,54 +18,67 @@ use Rattle.nk_plan.specs.Parent.{ParentState}
 use Rattle.nk_plan.specs.Child.{ChildState, Hold}
 use Rattle.nk_plan.specs.Channel.{Channel, main_lane, back_lane, up_lane}
 
--- WORK. Each thing weighs more than all that the step which takes it may bring.
+-- WORK. Each thing that is still to be taken weighs more than all that the step which takes it may bring.
 
--- an event that waits brings a callback; a cancel sends one message at most
+-- an event that waits brings a callback, or the question on a redirect; a cancel brings one message at most
 abbrev pub event_work : ChildEvent → ℕ
-event_work (Start code s) = 66
-event_work (Bytes o p s) = 66
-event_work (Stop s) = 66
-event_work (Redirect1 h) = 66
-event_work (Redirect3 h) = 66
+event_work (Start code s) = 67
+event_work (Bytes o p s) = 67
+event_work (Stop s) = 67
+event_work (Redirect1 h) = 67
+event_work (Redirect3 h) = 67
 event_work (Cancel s) = 2
 
 abbrev pub events_work : List ChildEvent → ℕ
 events_work [] = 0
 events_work (e ∷ es) = event_work e + events_work es
 
--- a callback makes at most 64 calls, one for each reaction, and each of them sends one message at most
+-- a callback makes at most 64 calls, one for each reaction, of which each sends one message at most; then a flush may begin
 abbrev pub running_work : Option (Target × ChildEvent) → ℕ
 running_work None = 0
-running_work (Some r) = 65
+running_work (Some r) = 66
+
+-- a flush, and each task that is posted
+abbrev pub flush_work : Option Target → ℕ
+flush_work None = 0
+flush_work (Some t) = 1
+
+abbrev pub posted_work : List ℕ → ℕ
+posted_work [] = 0
+posted_work (n ∷ ns) = n + posted_work ns
+
+-- an event that is offered begins a flush or posts a task, besides what it is itself
+abbrev pub queue_work : Queue ChildEvent → ℕ
+queue_work q = events_work q.waiting + flush_work q.flushing + posted_work q.posted
 
 -- a verdict is one message
 abbrev pub question_work : Option ℕ → ℕ
 question_work None = 0
 question_work (Some h) = 2
 
--- a report brings a release, which makes each message kept for its hop an event
+-- a report brings a release, which offers the event of each message that is kept for its hop
 abbrev pub report_work : Option ℕ → ℕ
 report_work None = 0
 report_work (Some h) = 1
 
 abbrev pub hold_work : Hold → ℕ
-hold_work hold = 67 * length hold.kept + report_work hold.report
+hold_work hold = 68 * length hold.kept + report_work hold.report
 
--- the opening, and the page's calls that are left; a break makes two events
+-- the opening, and the page's calls that are left; a break offers two events
 abbrev pub calls_work : ChannelPlan → Bool → ℕ → ℕ
-calls_work c false next = 133 + 133 * (length c.controls - next)
-calls_work c true next = 133 * (length c.controls - next)
+calls_work c false next = 137 + 137 * (length c.controls - next)
+calls_work c true next = 137 * (length c.controls - next)
 
 abbrev pub child_work : ChannelPlan → ChildState → ℕ
 child_work c s =
     calls_work c s.opened s.next
     + hold_work s.hold
-    + events_work s.queue.waiting
+    + queue_work s.queue
     + running_work s.running
     + question_work s.question
 
--- how many fetches a parent in this phase, on hop h with piece k next, can still do: two a redirect, the pieces of the
--- body, its stop, and one that meets the response
+-- how many fetches a parent in this phase, on hop h with piece k next, can still do at most: two for each hop left, one for
+-- each piece of the body, and its start and its stop
 abbrev pub fetches_in : ChannelPlan → Phase → ℕ → ℕ → ℕ
 fetches_in c Closed h k = 2 * (length c.hops - h) + length (body_of c) + 2
 fetches_in c Ready h k = 2 * (length c.hops - h) + length (body_of c) + 2
@@ -80,17 +94,18 @@ fetches_left c p = fetches_in c p.phase p.hop p.piece
 abbrev pub half_lane : Channel → List BackMsg
 half_lane w = drop w.forwarded (backs_sent w.parent.journal)
 
--- a fetch sends at most one message on each of the two down lanes; a message of the main lane makes at most two events
+-- a fetch sends at most one message on each of the two down lanes; a message of the main lane offers at most two events
 abbrev pub work : ChannelPlan → Channel → ℕ
 work c w =
-    203 * fetches_left c w.parent
-    + 133 * length (main_lane w)
-    + 69 * length (half_lane w)
-    + 68 * length (back_lane w)
+    208 * fetches_left c w.parent
+    + 137 * length (main_lane w)
+    + 70 * length (half_lane w)
+    + 69 * length (back_lane w)
     + length (up_lane w)
     + child_work c w.child
 
--- THE QUEUE'S NUMBER. A flush that has no event to run ends or hands over, and a task that has come to its turn is done.
+-- THE QUEUE'S NUMBER. A flush by another target than the first event's hands over; a task that has come to its turn makes
+-- a flush.
 
 -- where the first waiting event runs
 abbrev pub first_runs_on : Target → List ChildEvent → Option Target
@@ -121,3 +136,9 @@ abbrev pub Falls : ChannelPlan → Channel → Channel → Type 0
 Falls c w' w =
     (work c w' < work c w)
     ⊎ ((work c w' ≡ work c w) × (queue_number w'.child.queue < queue_number w.child.queue))
+
+-- BOTH IN ONE NUMBER. The queue's number is at most four times the work, which is below 2^24 in each channel that steps
+-- lead to.
+
+abbrev pub steps_left : ChannelPlan → Channel → ℕ
+steps_left c w = 67108864 * work c w + queue_number w.child.queue

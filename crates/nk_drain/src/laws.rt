@@ -1,12 +1,13 @@
 // The laws of the drain. A law is a function that does nothing: its contract is what is proved, for every plan and every
 // order of steps.
 
-ghost use Rattle.nk_drain.specs.Laws.{FallsLaw, IdleLaw, WithinLaw, RoomLaw, RoundLaw, StartLaw, WorkLaw};
+ghost use Rattle.nk_drain.specs.Laws.{FallsLaw, IdleLaw, LeftLaw, WithinLaw, RoomLaw, RoundLaw, StartLaw, WorkLaw};
 
-/// Each step that is enabled leaves a channel less to do, and so does a round of steps of which one
-/// is enabled.
+/// Each step that is enabled leaves a channel less to do: its work falls, or stays while its queue's
+/// number falls. So one number falls with each such step, and with each round that has one.
 pub fn falls_law()
     ensures step { FallsLaw }
+    ensures left { LeftLaw }
     ensures round { RoundLaw }
 {}
 

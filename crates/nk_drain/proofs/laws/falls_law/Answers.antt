@@ -1,5 +1,6 @@
-use Rattle.nk_drain.proofs.Reach.{falls, round}
+use Rattle.nk_drain.proofs.Reach.{falls}
+use Rattle.nk_drain.proofs.Rounds.{left, round}
 use Rattle.nk_drain.proofs.laws.falls_law.Goals as goal
 
 pub returns : goal.returns
-returns c = record { step = falls; round = round }
+returns c = record { step = falls; left = left; round = round }

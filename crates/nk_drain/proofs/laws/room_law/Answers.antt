@@ -1,5 +1,5 @@
-use Rattle.nk_drain.proofs.Reach.{no_more}
-use Rattle.nk_drain.proofs.Rooms.{starts, lanes, rooms}
+use Rattle.nk_drain.proofs.Reach.{no_more, rooms}
+use Rattle.nk_drain.proofs.Rooms.{starts, lanes}
 use Rattle.nk_drain.proofs.laws.room_law.Goals as goal
 
 pub returns : goal.returns
