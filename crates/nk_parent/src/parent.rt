@@ -98,6 +98,13 @@ impl Parent {
         moved
     }
 
+    /// Whether `Fetch` is enabled: `fetch` would not be `Idle`.
+    pub fn can_fetch(&self) -> bool
+        ensures { result ≡ parent_enabled self.now.plan step.Fetch self.now.state }
+    {
+        self.load.can_fetch()
+    }
+
     /// Whether the page has opened the channel, or is done with it.
     pub fn is_open(&self) -> bool
         ensures { result ≡ is_open self.now.state.phase }
@@ -150,6 +157,14 @@ impl Parent {
         lanes_law();
         let _plan = self.load.plan();
         &self.journal
+    }
+
+    /// What it took and sent, given away.
+    pub fn into_journal(self) -> ParentJournal
+        ensures journal { result ≡ self.state.journal }
+        ensures run { IsParentRun self.plan self.state.journal }
+    {
+        self.journal
     }
 
     /// Its plan, which is accepted.

@@ -96,6 +96,15 @@ impl Load {
         self.body.peek_size().is_some() && !self.window.may_send()
     }
 
+    /// Whether the load goes on behind its start: a failure stops it, and a body does not wait.
+    #[tactic(auto, using(crate::proofs::Bodies::pieces_here))]
+    pub fn can_go_on(&self) -> bool
+        requires phase { self.now.state.phase ≡ phase.Body }
+        ensures { result ≡ body_enabled self.now.state self.now.state.kept (pieces_at self.now.plan self.now.state.hop) }
+    {
+        self.failure.kept().is_some() || !self.waits()
+    }
+
     /// Sends the next piece, where there is one and credit for it, or the end.
     #[tactic(auto, using(crate::proofs::Blocks::added_more, crate::proofs::Blocks::added_none, crate::proofs::Bodies::body_here, crate::proofs::Bodies::pieces_here))]
     fn send_body<B: Out<BackMsg>>(&mut self, back: &mut B) -> Result<Moved, Memory>

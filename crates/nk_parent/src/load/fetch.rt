@@ -102,6 +102,20 @@ impl Load {
         }
     }
 
+    /// Whether the load has a next step.
+    pub fn can_fetch(&self) -> bool
+        ensures { result ≡ parent_enabled self.now.plan step.Fetch self.now.state }
+    {
+        if self.suspended {
+            return false;
+        }
+        match self.phase {
+            Phase::Closed | Phase::Asking | Phase::Done => false,
+            Phase::Ready | Phase::Follow => true,
+            Phase::Body => self.can_go_on(),
+        }
+    }
+
     /// Gives the start of the hop, with the failure that is kept, or 0.
     #[tactic(auto, using(crate::proofs::Blocks::added_more))]
     fn start<A: Out<MainMsg>, B: Out<BackMsg>>(
