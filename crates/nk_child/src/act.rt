@@ -112,6 +112,14 @@ impl Work {
         Ok(())
     }
 
+    /// Whether the page opens the channel, or its next call is due.
+    #[tactic(auto, using(crate::proofs::Acts::due_told))]
+    pub(crate) fn can_act(&self) -> bool
+        ensures { result ≡ child_enabled self.now.plan step.Act self.now.state }
+    {
+        !self.plan.closed && (!self.opened || self.due().is_some())
+    }
+
     /// The page opens the channel, or makes its next call.
     #[tactic(auto, using(crate::proofs::Acts::none_due, crate::proofs::Acts::one_due, crate::proofs::Gains::gains_none))]
     pub(crate) fn act<U: Out<UpMsg>, D: Out<Entry>>(

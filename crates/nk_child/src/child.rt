@@ -3,6 +3,7 @@
 ghost use Rattle.std.specs.Prelude.{◌≡◌, ◌++◌, ◌≤◌, ◌+◌, [], IfOk, OnOk, OnErr, length, drop};
 ghost use Rattle.std.specs.Option.{option_copied};
 ghost use Rattle.nk_base.specs.declared.status.Moved.TheVariants as moved;
+ghost use Rattle.nk_plan.specs.declared.step.ChildStep.TheVariants as child;
 ghost use Rattle.nk_plan.specs.Accepted.{Accepted};
 ghost use Rattle.nk_plan.specs.Child.{child_step, new_child};
 ghost use Rattle.nk_plan.specs.Enabled.{child_enabled};
@@ -105,6 +106,59 @@ impl Child {
         ensures { result ≡ running_target self.now.state.running }
     {
         self.work.running()
+    }
+
+    /// Whether the parent process is gone.
+    pub fn is_broken(&self) -> bool
+        ensures { result ≡ self.now.state.broken }
+    {
+        self.work.broken
+    }
+
+    /// Whether `Act` is enabled: the page opens the channel, or its next call is due.
+    pub fn can_act(&self) -> bool
+        ensures { result ≡ child_enabled self.now.plan child.Act self.now.state }
+    {
+        self.work.can_act()
+    }
+
+    /// Whether `Verdict` is enabled: a question is open.
+    pub fn can_verdict(&self) -> bool
+        ensures { result ≡ child_enabled self.now.plan child.Verdict self.now.state }
+    {
+        self.work.can_verdict()
+    }
+
+    /// Whether `Release` is enabled: a start is queued whose hop the hold has not let go.
+    pub fn can_release(&self) -> bool
+        ensures { result ≡ child_enabled self.now.plan child.Release self.now.state }
+    {
+        self.work.can_release()
+    }
+
+    /// Whether `Begin` is enabled on this target: nothing runs there, and a flush is under way or a task is posted.
+    pub fn can_begin(&self, target: Target) -> bool
+        ensures { result ≡ child_enabled self.now.plan (child.Begin target) self.now.state }
+    {
+        self.work.can_begin(target)
+    }
+
+    /// Whether `Finish` is enabled on this target: a callback runs there.
+    pub fn can_finish(&self, target: Target) -> bool
+        ensures { result ≡ child_enabled self.now.plan (child.Finish target) self.now.state }
+    {
+        self.work.runs_on(target)
+    }
+
+    /// What the listener was shown, and what the child took and did, given away.
+    pub fn into_parts(self) -> (Trace, ChildJournal)
+        ensures trace { result.0 ≡ self.state.trace }
+        ensures journal { result.1 ≡ self.state.journal }
+        ensures told { result.0 ≡ trace_of self.plan self.state.journal }
+        ensures run { IsChildRun self.plan self.state.journal }
+    {
+        state_law();
+        (self.trace, self.journal)
     }
 
     /// How the load stands: it is never opened, has stopped, is left suspended, or goes on.

@@ -124,6 +124,13 @@ impl Work {
         }
     }
 
+    /// Whether this target has a turn: nothing runs there, and a flush is under way or a task is posted.
+    pub(crate) fn can_begin(&self, t: Target) -> bool
+        ensures { result ≡ child_enabled self.now.plan (step.Begin t) self.now.state }
+    {
+        !self.runs_on(t) && (self.flushes(t) || self.queue.posted(t) > 0)
+    }
+
     /// The turn of this target comes.
     #[tactic(auto, using(crate::proofs::Gains::gains_none))]
     pub(crate) fn begin<U: Out<UpMsg>, D: Out<Entry>>(

@@ -249,6 +249,13 @@ impl Work {
         }
     }
 
+    /// Whether a start is queued whose hop the hold has not let go.
+    pub(crate) fn can_release(&self) -> bool
+        ensures { result ≡ child_enabled self.now.plan step.Release self.now.state }
+    {
+        !self.broken && self.hold.report().is_some()
+    }
+
     /// The start of a hop is queued: what the hold keeps of that hop is let go.
     #[tactic(auto, using(crate::proofs::Backs::few_of_hop))]
     pub(crate) fn release(&mut self) -> Result<Moved, Memory>

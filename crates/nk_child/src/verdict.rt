@@ -33,6 +33,13 @@ impl Work {
         }
     }
 
+    /// Whether a question is open.
+    pub(crate) fn can_verdict(&self) -> bool
+        ensures { result ≡ child_enabled self.now.plan step.Verdict self.now.state }
+    {
+        !self.broken && self.question.asked().is_some()
+    }
+
     /// The question that is open is answered.
     #[tactic(auto, using(crate::proofs::Same::answered, crate::proofs::Gains::gains, crate::proofs::Gains::gains_none))]
     pub(crate) fn verdict<U: Out<UpMsg>>(&mut self, up: &mut U) -> Result<Moved, Memory>
