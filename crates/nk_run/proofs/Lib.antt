@@ -2,3 +2,4 @@ pub mod PlanTests
 pub mod Loads
 pub mod Plays
 pub mod Tells
+pub mod Listings

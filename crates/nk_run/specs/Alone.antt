@@ -17,9 +17,15 @@ use Rattle.nk_trace.specs.Report.{text}
 use Rattle.nk_run.specs.Built.{is_supported}
 use Rattle.nk_run.specs.Failures.{line}
 
--- the words of the one command that is built
+-- the words of the commands that are built
 abbrev pub IsPlay : List (List ℕ) → Type 0
 IsPlay words = words ≡ codes "play" ∷ []
+
+abbrev pub IsFrames : List (List ℕ) → Type 0
+IsFrames words = words ≡ codes "frames" ∷ []
+
+abbrev pub HasMeaning : List (List ℕ) → Type 0
+HasMeaning words = IsPlay words ⊎ IsFrames words
 
 -- the most bytes of an input
 abbrev pub most_input : ℕ

@@ -2,6 +2,11 @@
 use Rattle.std.specs.Prelude.{ℕ, ◌≡◌, ◌⊎◌, List, [], ◌∷◌, ◌++◌, codes, decimal}
 use Rattle.nk_script.specs.declared.script.Cause.{Cause}
 use Rattle.nk_script.specs.declared.script.Cause.TheVariants as cause
+use Rattle.nk_wire.specs.declared.error.DecodeError.TheVariants as error
+use Rattle.nk_wire.specs.declared.error.FrameCause.{FrameCause}
+use Rattle.nk_wire.specs.declared.error.FrameCause.TheVariants as frame_cause
+use Rattle.nk_wire.specs.declared.error.FrameError.{FrameError}
+use Rattle.nk_run.specs.Frames.{bad_frame}
 use Rattle.nk_run.specs.declared.failure.Failure.{Failure}
 use Rattle.nk_run.specs.declared.failure.Failure.TheVariants as failure
 
@@ -21,6 +26,7 @@ bad_line number c = line (codes "error: line " ++ decimal number ++ codes ": " +
 
 abbrev pub status_of : Failure → ℕ
 status_of (failure.Line number c) = 1
+status_of (failure.Frame e) = 7
 status_of failure.NotSupported = 1
 status_of failure.TooLarge = 1
 status_of failure.Usage = 2
@@ -30,6 +36,7 @@ status_of failure.Memory = 5
 
 abbrev pub line_of : Failure → List ℕ
 line_of (failure.Line number c) = bad_line number c
+line_of (failure.Frame e) = bad_frame e
 line_of failure.NotSupported = line (codes "error: not supported")
 line_of failure.TooLarge = line (codes "error: input too large")
 line_of failure.Usage = line (codes "usage: necklane play [log] | divert K | threads N [shared] [log] | frames | gen N | check")
@@ -37,26 +44,41 @@ line_of failure.Read = line (codes "error: read")
 line_of failure.Write = line (codes "error: write")
 line_of failure.Memory = line (codes "error: memory")
 
--- it is no bad line
-abbrev pub IsNoLine : Failure → Type 0
-IsNoLine (failure.Line number c) = ⊥
-IsNoLine failure.NotSupported = Unit {0}
-IsNoLine failure.TooLarge = Unit {0}
-IsNoLine failure.Usage = Unit {0}
-IsNoLine failure.Read = Unit {0}
-IsNoLine failure.Write = Unit {0}
-IsNoLine failure.Memory = Unit {0}
+-- its line is always the same
+abbrev pub IsFixed : Failure → Type 0
+IsFixed (failure.Line number c) = ⊥
+IsFixed (failure.Frame e) = ⊥
+IsFixed failure.NotSupported = Unit {0}
+IsFixed failure.TooLarge = Unit {0}
+IsFixed failure.Usage = Unit {0}
+IsFixed failure.Read = Unit {0}
+IsFixed failure.Write = Unit {0}
+IsFixed failure.Memory = Unit {0}
 
--- the status of a bad line was answered and its line told, or memory was wanting for it, and that was told
-abbrev pub TellsLine : ℕ → Cause → ℕ → (List ℕ → Type 0) → Type 0
-TellsLine number c status Tells = ((status ≡ 1) × Tells (bad_line number c)) ⊎ ((status ≡ 5) × Tells (line_of failure.Memory))
+-- this status was answered and this line told, or memory was wanting for it, and that was told
+abbrev pub TellsText : ℕ → List ℕ → ℕ → (List ℕ → Type 0) → Type 0
+TellsText expected text status Tells = ((status ≡ expected) × Tells text) ⊎ ((status ≡ 5) × Tells (line_of failure.Memory))
 
 -- the status was answered, and the line told
 abbrev pub TellsAny : Failure → ℕ → (List ℕ → Type 0) → Type 0
-TellsAny (failure.Line number c) status Tells = TellsLine number c status Tells
+TellsAny (failure.Line number c) status Tells = TellsText 1 (bad_line number c) status Tells
+TellsAny (failure.Frame e) status Tells = TellsText 7 (bad_frame e) status Tells
 TellsAny failure.NotSupported status Tells = (status ≡ 1) × Tells (line_of failure.NotSupported)
 TellsAny failure.TooLarge status Tells = (status ≡ 1) × Tells (line_of failure.TooLarge)
 TellsAny failure.Usage status Tells = (status ≡ 2) × Tells (line_of failure.Usage)
 TellsAny failure.Read status Tells = (status ≡ 3) × Tells (line_of failure.Read)
 TellsAny failure.Write status Tells = (status ≡ 4) × Tells (line_of failure.Write)
 TellsAny failure.Memory status Tells = (status ≡ 5) × Tells (line_of failure.Memory)
+
+-- what ends a run whose frame is wrong: want of memory is no fault of the bytes
+abbrev pub failure_by : FrameError → FrameCause → Failure
+failure_by e (frame_cause.Length n) = failure.Frame e
+failure_by e (frame_cause.Decode error.Memory) = failure.Memory
+failure_by e (frame_cause.Decode (error.Short have need)) = failure.Frame e
+failure_by e (frame_cause.Decode (error.Kind kind)) = failure.Frame e
+failure_by e (frame_cause.Decode (error.BadField place)) = failure.Frame e
+failure_by e (frame_cause.Decode (error.Long extra)) = failure.Frame e
+failure_by e (frame_cause.Cut have need) = failure.Frame e
+
+abbrev pub failure_of : FrameError → Failure
+failure_of e = failure_by e e.cause

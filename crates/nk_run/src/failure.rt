@@ -1,13 +1,18 @@
 // Why a run prints no report: the status that it answers, and the line that it prints of it.
 
-ghost use Rattle.std.specs.Prelude.{◌≡◌, ◌≢◌, ◌++◌, ◌∷◌, IfOk, OnOk};
-ghost use Rattle.nk_run.specs.Failures.{status_of, line_of, bad_line as bad_text, cause_text as text_of, IsNoLine, TellsAny, TellsLine};
-ghost use Rattle.nk_run.specs.Alone.{Told};
+ghost use Rattle.std.specs.Prelude.{◌≡◌, ◌≢◌, ◌⊎◌, ◌++◌, ◌∷◌, [], IfOk, IfErr, OnOk};
+ghost use Rattle.nk_run.specs.Failures.{status_of, line_of, bad_line as bad_text, cause_text as text_of, failure_of, IsFixed, TellsAny, TellsText};
+ghost use Rattle.nk_io.specs.Faults.{Rose};
+ghost use Rattle.nk_io.specs.Got.{Gains, GainsPart};
+ghost use Rattle.nk_run.specs.Frames.{bad_frame as frame_text};
+ghost use Rattle.nk_run.specs.Alone.{Told, told_of};
 
+use crate::bad_frame::bad_frame;
 use itoa::Buffer;
 use nk_base::Memory;
-use nk_io::{Sink, write_all};
+use nk_io::{Sink, WriteFault, write_all};
 use nk_script::Cause;
+use nk_wire::{DecodeError, FrameCause, FrameError};
 use std::alloc::Global;
 
 /// Why a run ended early.
@@ -15,6 +20,8 @@ use std::alloc::Global;
 pub(crate) enum Failure {
     /// The text is no script: this line, counted from 1, is the first that cannot stand.
     Line { number: u32, cause: Cause },
+    /// The bytes are no sequence of frames: this frame is the first that is wrong.
+    Frame(FrameError),
     /// The script is not supported yet.
     NotSupported,
     /// The input has more than 16,777,216 bytes.
@@ -66,12 +73,23 @@ fn bad_line(alloc: Global, number: u32, cause: Cause) -> Result<Vec<u8>, Memory>
 }
 
 impl Failure {
+    /// What ends a run at this error of its frames.
+    pub(crate) fn of_frame(error: FrameError) -> Failure
+        ensures { result ≡ failure_of error }
+    {
+        match error.cause {
+            FrameCause::Decode(DecodeError::Memory) => Failure::Memory,
+            _ => Failure::Frame(error),
+        }
+    }
+
     /// The program's status.
     fn status(self) -> u8
         ensures { result ≡ status_of self }
     {
         match self {
             Failure::Line { .. } => 1,
+            Failure::Frame(_) => 7,
             Failure::NotSupported => 1,
             Failure::TooLarge => 1,
             Failure::Usage => 2,
@@ -83,11 +101,12 @@ impl Failure {
 
     /// The line that is printed of any other failure, with its line feed.
     fn line(self) -> &'static [u8]
-        requires { IsNoLine self }
+        requires { IsFixed self }
         ensures { result.now ≡ line_of self }
     {
         match self {
             Failure::Line { .. } => unreachable!(),
+            Failure::Frame(_) => unreachable!(),
             Failure::NotSupported => b"error: not supported\n",
             Failure::TooLarge => b"error: input too large\n",
             Failure::Usage =>
@@ -98,9 +117,9 @@ impl Failure {
         }
     }
 
-    /// Prints the line of a failure that is no bad line, and answers the status. A fault of the sink changes no status.
+    /// Prints the line of a failure that has always the same, and answers the status. A fault of the sink changes no status.
     pub(crate) fn tell<E: Sink>(self, err: &mut E) -> u8
-        requires { IsNoLine self }
+        requires { IsFixed self }
         ensures status { result ≡ status_of self }
         ensures told { Told (E.got err.old) (E.got err.new) (E.faults err.old) (E.faults err.new) (line_of self) }
     {
@@ -113,7 +132,8 @@ impl Failure {
         ensures { TellsAny self result (Told (E.got err.old) (E.got err.new) (E.faults err.old) (E.faults err.new)) }
     {
         match self {
-            Failure::Line { number, cause } => tell_line(alloc, number, cause, err),
+            Failure::Line { number, cause } => tell_line(1, bad_line(alloc, number, cause), err),
+            Failure::Frame(error) => tell_line(7, bad_frame(alloc, error), err),
             Failure::NotSupported => Failure::NotSupported.tell(err),
             Failure::TooLarge => Failure::TooLarge.tell(err),
             Failure::Usage => Failure::Usage.tell(err),
@@ -131,15 +151,32 @@ fn tell_text<E: Sink>(err: &mut E, text: &[u8])
     let _ = write_all(err, text);
 }
 
-/// Prints the line of a script's first bad line, and answers the status.
-fn tell_line<E: Sink>(alloc: Global, number: u32, cause: Cause, err: &mut E) -> u8
-    ensures { TellsLine number cause result (Told (E.got err.old) (E.got err.new) (E.faults err.old) (E.faults err.new)) }
+/// Prints a line and answers its status, or want of memory where there is no line.
+fn tell_line<E: Sink>(status: u8, line: Result<Vec<u8>, Memory>, err: &mut E) -> u8
+    ensures line { IfOk line (λ text. (result ≡ status)
+        × Told (E.got err.old) (E.got err.new) (E.faults err.old) (E.faults err.new) text.items) }
+    ensures memory { IfErr line (λ _. (result ≡ 5)
+        × Told (E.got err.old) (E.got err.new) (E.faults err.old) (E.faults err.new) (line_of Failure.Memory)) }
 {
-    match bad_line(alloc, number, cause) {
+    match line {
         Ok(text) => {
             tell_text(err, text.as_slice());
-            1
+            status
         }
         Err(Memory) => Failure::Memory.tell(err),
+    }
+}
+
+/// Writes what a run prints, and answers the status.
+pub(crate) fn write_out<O: Sink, E: Sink>(text: &[u8], out: &mut O, err: &mut E) -> u8
+    ensures statuses { (result ≡ 0) ⊎ (result ≡ 4) }
+    ensures whole { result ≡ 0 → Gains (O.got out.old) (O.got out.new) text.now }
+    ensures part { result ≡ 4 → GainsPart (O.got out.old) (O.got out.new) text.now }
+    ensures fault { result ≡ 4 → Rose (O.faults out.old) (O.faults out.new) }
+    ensures told { Told (E.got err.old) (E.got err.new) (E.faults err.old) (E.faults err.new) (told_of result) }
+{
+    match write_all(out, text) {
+        Ok(()) => 0,
+        Err(WriteFault) => Failure::Write.tell(err),
     }
 }

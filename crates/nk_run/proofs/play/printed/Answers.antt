@@ -1,4 +1,4 @@
-use Rattle.nk_run.proofs.run.printed.Goals as goal
+use Rattle.nk_run.proofs.play.printed.Goals as goal
 use Rattle.nk_run.proofs.Plays.{none_going}
 
 pub report-requires : goal.report-requires

@@ -1,5 +1,5 @@
 use Rattle.std.proofs.Common.{sym, ◌∙◌}
-use Rattle.nk_run.proofs.run.played.Goals as goal
+use Rattle.nk_run.proofs.play.played.Goals as goal
 use Rattle.nk_run.proofs.Plays.{is_played, report_is}
 
 pub returns-then-is_supported-clause-played : goal.returns-then-is_supported-clause-played
