@@ -67,6 +67,7 @@ pub record IsBadFrame (all : List ℕ) (e : FrameError) : Type 0 where
   pub offset : e.offset ≡ sizes before
   pub wrong : IsWrong left e.cause
 
+-- why a rest is no message; want of memory is none of the rest's, and ends a run by itself
 abbrev pub decode_text : DecodeError → List ℕ
 decode_text (error.Short have need) = words (codes "short" ∷ decimal have ∷ decimal need ∷ [])
 decode_text (error.Kind kind) = words (codes "kind" ∷ hex_byte kind ∷ [])

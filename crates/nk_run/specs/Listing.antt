@@ -93,7 +93,7 @@ TellsFrame left left' Tells = (e : FrameError) × IsBadInput e left left' × Tel
 
 -- What `frames` answers: this status, by what the input has left and how often it failed, what the output got and how
 -- often it failed, and what is told of a failure.
-pub record FramesRun (status : ℕ) (left left' : Option (List ℕ)) (taken taken' : ℕ) (got got' : Option (List ℕ)) (put put' : ℕ)
+pub record FramesRun (status : ℕ) (left left' : Option (List ℕ)) (in_faults in_faults' : ℕ) (got got' : Option (List ℕ)) (out_faults out_faults' : ℕ)
     (Tells : List ℕ → Type 0) : Type 0 where
   -- 0: all lines were written. 4: a prefix of them
   pub printed : status ≡ 0 → PrintsFrames left left' got got'
@@ -103,6 +103,6 @@ pub record FramesRun (status : ℕ) (left left' : Option (List ℕ)) (taken take
   pub too_large : status ≡ 1 → GivesCount left left' (most_input + 1) × Tells too_large
   pub others : (status ≤ 5) ⊎ (status ≡ 7)
   -- without a fault, want of memory alone keeps frames from their lines, and other bytes from their refusal
-  pub whole : IsInput left AreAllFrames → Quiet taken taken' → Quiet put put' → (status ≡ 0) ⊎ (status ≡ 5)
-  pub none : IsInput left AreNoFrames → Quiet taken taken' → (status ≡ 7) ⊎ (status ≡ 5)
-  pub overlong : Exceeds most_input left → Quiet taken taken' → (status ≡ 1) ⊎ (status ≡ 5)
+  pub whole : IsInput left AreAllFrames → Quiet in_faults in_faults' → Quiet out_faults out_faults' → (status ≡ 0) ⊎ (status ≡ 5)
+  pub none : IsInput left AreNoFrames → Quiet in_faults in_faults' → (status ≡ 7) ⊎ (status ≡ 5)
+  pub overlong : Exceeds most_input left → Quiet in_faults in_faults' → (status ≡ 1) ⊎ (status ≡ 5)

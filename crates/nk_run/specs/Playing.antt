@@ -73,7 +73,7 @@ TellsRefusal left left' Tells =
 
 -- What `play` answers: this status, by what the input has left and how often it failed, what the output got and how
 -- often it failed, and what is told of a failure.
-pub record PlayRun (status : ℕ) (left left' : Option (List ℕ)) (taken taken' : ℕ) (got got' : Option (List ℕ)) (put put' : ℕ)
+pub record PlayRun (status : ℕ) (left left' : Option (List ℕ)) (in_faults in_faults' : ℕ) (got got' : Option (List ℕ)) (out_faults out_faults' : ℕ)
     (Tells : List ℕ → Type 0) : Type 0 where
   -- 0: all of the input is a script, and its report was written. 4: a prefix of that report was written
   pub played : status ≡ 0 → Plays left left' got got'
@@ -83,7 +83,7 @@ pub record PlayRun (status : ℕ) (left left' : Option (List ℕ)) (taken taken'
   pub refused : status ≡ 1 → TellsRefusal left left' Tells
   pub others : status ≤ 5
   -- without a fault, want of memory alone keeps a supported script from its report, and any other input from its refusal
-  pub supported : IsInput left IsSupported → Quiet taken taken' → Quiet put put' → (status ≡ 0) ⊎ (status ≡ 5)
-  pub unsupported : IsInput left IsUnsupported → Quiet taken taken' → (status ≡ 1) ⊎ (status ≡ 5)
-  pub none : IsInput left IsNoScript → Quiet taken taken' → (status ≡ 1) ⊎ (status ≡ 5)
-  pub overlong : Exceeds most_input left → Quiet taken taken' → (status ≡ 1) ⊎ (status ≡ 5)
+  pub supported : IsInput left IsSupported → Quiet in_faults in_faults' → Quiet out_faults out_faults' → (status ≡ 0) ⊎ (status ≡ 5)
+  pub unsupported : IsInput left IsUnsupported → Quiet in_faults in_faults' → (status ≡ 1) ⊎ (status ≡ 5)
+  pub none : IsInput left IsNoScript → Quiet in_faults in_faults' → (status ≡ 1) ⊎ (status ≡ 5)
+  pub overlong : Exceeds most_input left → Quiet in_faults in_faults' → (status ≡ 1) ⊎ (status ≡ 5)

@@ -4,7 +4,6 @@ ghost use Rattle.std.specs.Prelude.{◌≡◌, ◌≢◌, ◌⊎◌, ◌++◌, �
 ghost use Rattle.nk_run.specs.Failures.{status_of, line_of, bad_line as bad_text, cause_text as text_of, failure_of, IsFixed, TellsAny, TellsText};
 ghost use Rattle.nk_io.specs.Faults.{Rose};
 ghost use Rattle.nk_io.specs.Got.{Gains, GainsPart};
-ghost use Rattle.nk_run.specs.Frames.{bad_frame as frame_text};
 ghost use Rattle.nk_run.specs.Alone.{Told, told_of};
 
 use crate::bad_frame::bad_frame;

@@ -66,7 +66,8 @@ impl Listing {
         ensures listed { (fed : List ℕ) → Listed fed self.old.frames self.old.printer
             → OnOk result (Listed (fed ++ piece.now) self.new.frames self.new.printer) }
         ensures total { (fed : List ℕ) → Listed fed self.old.frames self.old.printer → OnOk result
-            (self.new.frames.offset + length self.new.frames.unused ≡ self.old.frames.offset + length self.old.frames.unused + length piece.now) }
+            (self.new.frames.offset + length self.new.frames.unused
+            ≡ self.old.frames.offset + length self.old.frames.unused + length piece.now) }
         ensures memory { IfErr result (λ e. e ≡ Failure.Memory) }
     {
         match self.frames.feed(piece) {
@@ -82,7 +83,8 @@ impl Listing {
             → IfOk result (λ _. Listed fed self.new.frames self.new.printer) }
         ensures part { IfOk result (λ more. more ≡ false → first self.new.frames.unused ≡ Part) }
         ensures shrinks { IfOk result (λ more. more ≡ true → length self.new.frames.unused < length self.old.frames.unused) }
-        ensures total { self.new.frames.offset + length self.new.frames.unused ≡ self.old.frames.offset + length self.old.frames.unused }
+        ensures total { self.new.frames.offset + length self.new.frames.unused
+            ≡ self.old.frames.offset + length self.old.frames.unused }
         ensures stops { (fed more : List ℕ) → AreBytes (fed ++ more) → Listed fed self.old.frames self.old.printer
             → IfErr result (λ e. Stops e (fed ++ more)) }
     {
@@ -106,7 +108,8 @@ impl Listing {
         ensures listed { (fed : List ℕ) → AreBytes fed → Listed fed self.old.frames self.old.printer
             → OnOk result (Listed fed self.new.frames self.new.printer) }
         ensures part { OnOk result (first self.new.frames.unused ≡ Part) }
-        ensures total { self.new.frames.offset + length self.new.frames.unused ≡ self.old.frames.offset + length self.old.frames.unused }
+        ensures total { self.new.frames.offset + length self.new.frames.unused
+            ≡ self.old.frames.offset + length self.old.frames.unused }
         ensures stops { (fed more : List ℕ) → AreBytes (fed ++ more) → Listed fed self.old.frames self.old.printer
             → IfErr result (λ e. Stops e (fed ++ more)) }
     {
@@ -149,10 +152,13 @@ fn list(alloc: Global, bytes: &[u8]) -> Result<Vec<u8>, Failure>
 
 /// The lines of the frames that the input is.
 fn frames<I: Source>(alloc: Global, input: &mut I) -> Result<Vec<u8>, Failure>
-    ensures lines { IfOk result (λ text. IfSome (I.left input.old) (λ all. (I.left input.new ≡ Some []) × AreLines all text.items)) }
+    ensures lines { IfOk result (λ text.
+        IfSome (I.left input.old) (λ all. (I.left input.new ≡ Some []) × AreLines all text.items)) }
     ensures fails { IfErr result (λ e. FramesFail e (I.left input.old) (I.left input.new) (I.faults input.old) (I.faults input.new)) }
-    ensures whole { IsInput (I.left input.old) AreAllFrames → Quiet (I.faults input.old) (I.faults input.new) → IsOkUnless result Failure.Memory }
-    ensures none { IsInput (I.left input.old) AreNoFrames → Quiet (I.faults input.old) (I.faults input.new) → IsFrameOrMemory result }
+    ensures whole { IsInput (I.left input.old) AreAllFrames → Quiet (I.faults input.old) (I.faults input.new)
+        → IsOkUnless result Failure.Memory }
+    ensures none { IsInput (I.left input.old) AreNoFrames → Quiet (I.faults input.old) (I.faults input.new)
+        → IsFrameOrMemory result }
     ensures overlong { Exceeds most_input (I.left input.old) → Quiet (I.faults input.old) (I.faults input.new)
         → IsEither result Failure.TooLarge Failure.Memory }
 {
@@ -176,10 +182,11 @@ pub(crate) fn run_frames<I: Source, O: Sink, E: Sink>(
         × Told (E.got err.old) (E.got err.new) (E.faults err.old) (E.faults err.new) too_large }
     ensures read { result ≡ 3 → Rose (I.faults input.old) (I.faults input.new) }
     ensures write { result ≡ 4 → Rose (O.faults out.old) (O.faults out.new) }
-    ensures told { result ≢ 1 → result ≢ 7 → Told (E.got err.old) (E.got err.new) (E.faults err.old) (E.faults err.new) (told_of result) }
+    ensures told { result ≢ 1 → result ≢ 7
+        → Told (E.got err.old) (E.got err.new) (E.faults err.old) (E.faults err.new) (told_of result) }
     ensures out { result ≢ 0 → result ≢ 4 → out.new ≡ out.old }
-    ensures whole { IsInput (I.left input.old) AreAllFrames
-        → Quiet (I.faults input.old) (I.faults input.new) → Quiet (O.faults out.old) (O.faults out.new) → (result ≡ 0) ⊎ (result ≡ 5) }
+    ensures whole { IsInput (I.left input.old) AreAllFrames → Quiet (I.faults input.old) (I.faults input.new)
+        → Quiet (O.faults out.old) (O.faults out.new) → (result ≡ 0) ⊎ (result ≡ 5) }
     ensures none { IsInput (I.left input.old) AreNoFrames
         → Quiet (I.faults input.old) (I.faults input.new) → (result ≡ 7) ⊎ (result ≡ 5) }
     ensures overlong { Exceeds most_input (I.left input.old)

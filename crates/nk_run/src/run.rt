@@ -19,7 +19,7 @@ enum Alone {
     Frames,
 }
 
-/// The command that the words call.
+/// The command that the words call, where it is one of these.
 fn called(words: &[&str]) -> Option<Alone>
     ensures play { (result ≡ Some Alone.Play) ↔ IsPlay (map (λ word. word.now) words.now) }
     ensures frames { (result ≡ Some Alone.Frames) ↔ IsFrames (map (λ word. word.now) words.now) }
@@ -53,10 +53,14 @@ pub fn run_alone<I: Source, O: Sink, E: Sink>(
     err: &mut E,
 ) -> u8
     // What each command answers.
-    ensures play { IsPlay (map (λ word. word.now) words.now) → PlayRun result (I.left input.old) (I.left input.new) (I.faults input.old) (I.faults input.new)
-        (O.got out.old) (O.got out.new) (O.faults out.old) (O.faults out.new) (Told (E.got err.old) (E.got err.new) (E.faults err.old) (E.faults err.new)) }
-    ensures frames { IsFrames (map (λ word. word.now) words.now) → FramesRun result (I.left input.old) (I.left input.new) (I.faults input.old) (I.faults input.new)
-        (O.got out.old) (O.got out.new) (O.faults out.old) (O.faults out.new) (Told (E.got err.old) (E.got err.new) (E.faults err.old) (E.faults err.new)) }
+    ensures play { IsPlay (map (λ word. word.now) words.now)
+        → PlayRun result (I.left input.old) (I.left input.new) (I.faults input.old) (I.faults input.new)
+        (O.got out.old) (O.got out.new) (O.faults out.old) (O.faults out.new)
+        (Told (E.got err.old) (E.got err.new) (E.faults err.old) (E.faults err.new)) }
+    ensures frames { IsFrames (map (λ word. word.now) words.now)
+        → FramesRun result (I.left input.old) (I.left input.new) (I.faults input.old) (I.faults input.new)
+        (O.got out.old) (O.got out.new) (O.faults out.old) (O.faults out.new)
+        (Told (E.got err.old) (E.got err.new) (E.faults err.old) (E.faults err.new)) }
 
     // 2: the words. 3, 4: faults. There is no other status than those up to 5 and 7.
     ensures statuses { (result ≤ 5) ⊎ (result ≡ 7) }
@@ -65,7 +69,8 @@ pub fn run_alone<I: Source, O: Sink, E: Sink>(
     ensures write { result ≡ 4 → Rose (O.faults out.old) (O.faults out.new) }
 
     // What err gets, where its text is that of the status, and what stays as it was.
-    ensures told { result ≢ 1 → result ≢ 7 → Told (E.got err.old) (E.got err.new) (E.faults err.old) (E.faults err.new) (told_of result) }
+    ensures told { result ≢ 1 → result ≢ 7
+        → Told (E.got err.old) (E.got err.new) (E.faults err.old) (E.faults err.new) (told_of result) }
     ensures out { result ≢ 0 → result ≢ 4 → out.new ≡ out.old }
     ensures input { result ≡ 2 → input.new ≡ input.old }
 {
