@@ -1,10 +1,10 @@
 -- A step that is not enabled changes nothing.
-use Rattle.std.proofs.Common.{ℕ, suc, ◌≡◌, ◌∙◌, refl, sym, ap, Bool, true, false, not, ◌&&◌, ◌||◌, if◌then◌else◌, nat_lt, nat_le, slice_get, slice_index, Option, Some, None, is_some, Result, Ok, Err, IfOk, OnOk}
+use Rattle.std.proofs.Common.{ℕ, ◌≡◌, ◌∙◌, refl, sym, ap, Bool, true, false, not, ◌&&◌, ◌||◌, if◌then◌else◌, nat_lt, nat_le, slice_get, slice_index, Option, Some, None, is_some, Result, Ok, Err, IfOk, OnOk}
 use Rattle.nk_base.specs.declared.status.Memory.{Memory}
 use Rattle.nk_base.specs.declared.status.Moved.{Moved}
-use Rattle.nk_base.specs.declared.status.Moved.TheVariants.{Did, Idle}
+use Rattle.nk_base.specs.declared.status.Moved.TheVariants.{Idle}
 use Rattle.nk_base.specs.declared.status.Target.{Target}
-use Rattle.nk_base.specs.Queue.{is_target, target_number, same_target, taken, completed}
+use Rattle.nk_base.specs.Queue.{is_target, target_number, same_target}
 use Rattle.nk_plan.specs.declared.plan.ChannelPlan.{ChannelPlan}
 use Rattle.nk_plan.specs.declared.plan.Control.{Control}
 use Rattle.nk_plan.specs.declared.event.ChildEvent.{ChildEvent}
