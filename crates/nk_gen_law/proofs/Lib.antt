@@ -7,3 +7,4 @@ pub mod Bodies
 pub mod Options
 pub mod Channels
 pub mod Sizes
+pub mod Sums
