@@ -1,0 +1,2 @@
+// The listener of a channel. After Firefox's nsIStreamListener.
+#![tactic(auto)]
