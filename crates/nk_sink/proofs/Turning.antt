@@ -117,7 +117,7 @@ gives segment written closed start position s none is =
 at_end : (written : List ℕ) (position : ℕ) → drop position written ≡ [] → position ≤ length written → position ≡ length written
 at_end written position none most = omega (arith, most, length-drop position written, ap (λ (xs : List ℕ). length xs) none)
 
-stands : (position n : ℕ) → position + length (take n (let xs : List ℕ = [] in xs)) ≡ position
+pub stands : (position n : ℕ) → position + length (take n (let xs : List ℕ = [] in xs)) ≡ position
 stands position n = rw (take_all n (let xs : List ℕ = [] in xs) (omega arith)) (omega arith)
 
 ends_by : (segment : ℕ) (written : List ℕ) (t : Status) (start position : ℕ) (s : Shown) (b : Bool) → t.0 == stream_closed.0 ≡ b → position ≡ length written → IsRead segment written (Some t) (record { start = start; position = position; closed = None }) s
