@@ -1,3 +1,5 @@
+pub mod Fed
+pub mod Given
 pub mod Held
 pub mod Listener
 pub mod Reached

@@ -1,2 +1,5 @@
-// The listener of a channel. After Firefox's nsIStreamListener.
+// The listener of a channel: it keeps what it is shown, and may feed a pipe, from which pumps read. After Firefox's
+// nsIStreamListener.
 #![tactic(auto)]
+
+mod given;
