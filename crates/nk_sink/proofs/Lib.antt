@@ -4,5 +4,7 @@ pub mod Flowing
 pub mod Giving
 pub mod Laws
 pub mod Lowering
+pub mod Passing
 pub mod Pouring
 pub mod Turning
+pub mod Writing

@@ -1,15 +1,15 @@
 -- The entries go into the pipe one after the other, and what then has flowed is the model's.
-use Rattle.std.proofs.Common.{◌≡◌, ℕ, zero, suc, ◌+◌, ◌-◌, ◌*◌, ◌/◌, ◌<◌, ◌≤◌, Bool, true, false, List, [], ◌∷◌, ◌++◌, length, take, drop, min, Option, Some, None, refl, sym, ap, subst, ◌∙◌, arith}
+use Rattle.std.proofs.Common.{◌≡◌, ℕ, zero, suc, ◌+◌, ◌-◌, ◌*◌, ◌/◌, ◌<◌, ◌≤◌, Bool, true, false, List, [], ◌∷◌, ◌++◌, length, take, drop, min, Option, Some, None, refl, sym, ap, subst, ◌∙◌, arith, take-add}
 use Rattle.std.specs.Prelude.{slice_get}
-use Rattle.std.proofs.lemmas.List.{length-append, length-take, length-drop, append_assoc, append-nil, take-append-drop, take-append-le, take_all, drop-append-le, drop_all}
+use Rattle.std.proofs.lemmas.List.{length-append, length-take, length-drop, append_assoc, append-nil, take-append-drop, take-append-le, take_all, take_at, drop-append-le, drop_all}
 use Rattle.nk_base.specs.declared.status.Status.{Status}
 use Rattle.nk_base.specs.declared.message.Entry.{Entry}
 use Rattle.nk_base.specs.declared.message.Entry.TheVariants as entry
-use Rattle.nk_pipe.specs.Pipe.{Pipe, Reader, room_for, room, without_writer}
+use Rattle.nk_pipe.specs.Pipe.{Pipe, Reader, room_for, room, written_to, without_writer, first_close}
 use Rattle.nk_pipe.specs.Kept.{Kept, Stands, whole, count}
 use Rattle.nk_pump.specs.Shown.{Shown}
 use Rattle.nk_sink.specs.Listener.{Piped, closed_behind, flowed, body_of, stop_of}
-use Rattle.nk_sink.specs.Fed.{pipe_in, piped_with, IsWithin, IsOpenAt, IsAt}
+use Rattle.nk_sink.specs.Fed.{pipe_in, piped_with, IsWithin, IsOpenAt, IsAt, room_in, HasPassed, Passes, MayPass}
 use Rattle.nk_sink.proofs.Feeding.{body_append, stop_append}
 
 -- a model's list is as long as what was written
@@ -46,28 +46,23 @@ splits es k place offset before counted =
 
 -- AFTER A WRITE
 
-abbrev pipe_of : ℕ → ℕ → List ℕ → List Reader → Option Status → Pipe
+abbrev pub pipe_of : ℕ → ℕ → List ℕ → List Reader → Option Status → Pipe
 pipe_of segment limit written readers closed =
     record { segment = segment; limit = limit; written = written; readers = readers; closed = closed }
 
-abbrev piped_of : Pipe → List ℕ → Option Status → List Shown → Piped
+abbrev pub piped_of : Pipe → List ℕ → Option Status → List Shown → Piped
 piped_of pipe kept stop pumps = record { pipe = pipe; kept = kept; stop = stop; pumps = pumps }
 
 -- the pipe has so many more bytes of the body
-record Poured (body : List ℕ) (k k' : Kept) (n : ℕ) : Type 0 where
-  stands : Stands k' (pipe_in body k')
-  counted : count k' ≡ count k + n
-  is : (pipe_in body k') ≡ pipe_of k.segment k.limit (take (count k + n) body) k.readers k.closed
+pub record Poured (body : List ℕ) (k k' : Kept) (n : ℕ) : Type 0 where
+  pub stands : Stands k' (pipe_in body k')
+  pub counted : count k' ≡ count k + n
+  pub is : (pipe_in body k') ≡ pipe_of k.segment k.limit (take (count k + n) body) k.readers k.closed
 
 take_past : (xs ys : List ℕ) (n : ℕ) → take (length xs + n) (xs ++ ys) ≡ xs ++ take n ys
 take_past [] ys n = let same : 0 + n ≡ n = omega arith in ap (λ m. take m ys) same
 take_past (x ∷ xs) ys n =
     let same : length (x ∷ xs) + n ≡ suc (length xs + n) = omega arith in ap (λ m. take m (x ∷ xs ++ ys)) same ∙ ap (λ zs. x ∷ zs) (take_past xs ys n)
-
-take_sum : (n m : ℕ) (xs : List ℕ) → take (n + m) xs ≡ take n xs ++ take m (drop n xs)
-take_sum zero m xs = let same : 0 + m ≡ m = omega arith in rw same refl
-take_sum (suc n) m [] = let same : suc n + m ≡ suc (n + m) = omega arith in rw (same, take_all m (let xs : List ℕ = [] in xs) (omega arith)) refl
-take_sum (suc n) m (x ∷ xs) = let same : suc n + m ≡ suc (n + m) = omega arith in rw same (ap (λ ys. x ∷ ys) (take_sum n m xs))
 
 -- a pipe that stands for this list stands for the first bytes of the body
 poured_by : (body : List ℕ) (k k' : Kept) (n : ℕ) (closed : Option Status) → length (take (count k + n) body) ≡ count k + n → Stands k' (pipe_of k.segment k.limit (take (count k + n) body) k.readers closed)
@@ -80,11 +75,11 @@ poured_by body k k' n closed long stands =
     (subst (λ (q : Pipe). Stands k' q) (sym is) stands, counted, is)
 
 -- so many bytes are in the body
-within_body : (body : List ℕ) (k : Kept) → Stands k (pipe_in body k) → length (take (count k) body) ≡ count k
+pub within_body : (body : List ℕ) (k : Kept) → Stands k (pipe_in body k) → length (take (count k) body) ≡ count k
 within_body body k stands = stands_count k (pipe_in body k) stands
 
 -- some of the body's next bytes were written
-pours : (body next : List ℕ) (k k' : Kept) (n : ℕ) → Stands k (pipe_in body k) → k.closed ≡ None → ((p : Pipe) → Stands k p → Stands k' (written_to p.closed next p)) → take (room_in k) next ≡ take n (drop (count k) body) → n ≤ length (drop (count k) body)
+pub pours : (body next : List ℕ) (k k' : Kept) (n : ℕ) → Stands k (pipe_in body k) → k.closed ≡ None → ((p : Pipe) → Stands k p → Stands k' (written_to p.closed next p)) → take (room_in k) next ≡ take n (drop (count k) body) → n ≤ length (drop (count k) body)
     → Poured body k k' n
 pours body next k k' n stands opens each same few =
     let room_is : room (pipe_in body k) ≡ room_in k = ap (λ m. room_for k.segment k.limit k.readers m) (within_body body k stands) in
@@ -92,7 +87,7 @@ pours body next k k' n stands opens each same few =
     ap (λ o. written_to o next (pipe_in body k)) opens
     ∙ ap (λ m. pipe_of k.segment k.limit (take (count k) body ++ take m next) k.readers k.closed) room_is
     ∙ ap (λ xs. pipe_of k.segment k.limit (take (count k) body ++ xs) k.readers k.closed) same
-    ∙ ap (λ xs. pipe_of k.segment k.limit xs k.readers k.closed) (sym (take_sum (count k) n body)) in
+    ∙ ap (λ xs. pipe_of k.segment k.limit xs k.readers k.closed) (sym (take-add (count k) n body)) in
     let long : length (take (count k + n) body) ≡ count k + n = omega (arith, length-take (count k + n) body, length-drop (count k) body, few, within_body body k stands, length-take (count k) body) in
     let after = poured_by body k k' n k.closed long (subst (λ (q : Pipe). Stands k' q) wrote (each (pipe_in body k) stands)) in
     record { stands = after.0; counted = after.1; is = after.2 }
@@ -100,7 +95,7 @@ pours body next k k' n stands opens each same few =
 -- WHAT THEN FLOWS
 
 -- bytes that fit may go first
-flow_on : (segment limit : ℕ) (written x y : List ℕ) (readers : List Reader) (stop : Option Status) (pumps : List Shown) → length x ≤ room (pipe_of segment limit written readers None)
+pub flow_on : (segment limit : ℕ) (written x y : List ℕ) (readers : List Reader) (stop : Option Status) (pumps : List Shown) → length x ≤ room (pipe_of segment limit written readers None)
     → flowed (piped_of (pipe_of segment limit (written ++ x) readers None) y stop pumps) ≡ flowed (piped_of (pipe_of segment limit written readers None) (x ++ y) stop pumps)
 flow_on segment limit written x y readers stop pumps fits =
     let later : ℕ = room (pipe_of segment limit (written ++ x) readers None) in
@@ -115,7 +110,7 @@ not_closed [] stop p some = absurd (omega (arith, some))
 not_closed (b ∷ bs) stop p some = refl
 
 -- as many as fit, where not all do, are what flows
-flow_out : (segment limit : ℕ) (written kept : List ℕ) (readers : List Reader) (stop : Option Status) (pumps : List Shown) → room (pipe_of segment limit written readers None) < length kept
+pub flow_out : (segment limit : ℕ) (written kept : List ℕ) (readers : List Reader) (stop : Option Status) (pumps : List Shown) → room (pipe_of segment limit written readers None) < length kept
     → piped_of (pipe_of segment limit (written ++ take (room (pipe_of segment limit written readers None)) kept) readers None) (drop (room (pipe_of segment limit written readers None)) kept) stop pumps ≡ flowed (piped_of (pipe_of segment limit written readers None) kept stop pumps)
 flow_out segment limit written kept readers stop pumps some =
     ap (λ p. piped_of p (drop (room (pipe_of segment limit written readers None)) kept) stop pumps)
