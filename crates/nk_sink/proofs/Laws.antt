@@ -13,6 +13,7 @@ use Rattle.nk_pump.specs.Shown.{Shown, nothing_shown}
 use Rattle.nk_sink.specs.Listener.{Piped, Listener, piped_of, fed, if_piped, pump_of, read_by, read_turn, piped_enabled, ends_at, left_at, body_of, stop_of, status_behind}
 use Rattle.nk_sink.specs.Reached.{IsGoodKind, ListenerStep, Enter, Turn, listener_after, OfPiped, KeepsAll, KeptLaw, LowersLaw, IdleLaw, IsDrained, readers_of, ReadersLaw}
 use Rattle.nk_sink.specs.Held.{IsFull, IsPiped}
+use Rattle.nk_sink.specs.Sunk.{IsPipedIn}
 use Rattle.nk_sink.proofs.Flowing.{new_is}
 use Rattle.nk_sink.proofs.Feeding.{fed_is}
 use Rattle.nk_sink.proofs.Turning.{read_is}
@@ -20,9 +21,6 @@ use Rattle.nk_sink.proofs.Lowering.{read_idle, read_lowers}
 use Rattle.nk_sink.proofs.Draining.{drained_is}
 
 -- WHAT HOLDS AFTER EACH STEP
-
-abbrev pub IsPipedIn : List Entry → Option Piped → Type 0
-IsPipedIn es o = OfPiped (IsPiped (body_of es) (stop_of es)) o
 
 new_in : (k : ListenerKind) → IsGoodKind k → IsPipedIn [] (piped_of k)
 new_in kind.Plain good = tt

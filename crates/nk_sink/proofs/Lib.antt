@@ -4,7 +4,9 @@ pub mod Flowing
 pub mod Giving
 pub mod Laws
 pub mod Lowering
+pub mod Moving
 pub mod Passing
 pub mod Pouring
+pub mod Showing
 pub mod Turning
 pub mod Writing

@@ -28,13 +28,13 @@ get_below [] i e get = absurd (cc (get))
 get_below (x ∷ es) zero e get = omega arith
 get_below (x ∷ es) (suc i) e get = omega (arith, get_below es i e get)
 
-within_zero : (es : List Entry) → IsWithin es 0
+pub within_zero : (es : List Entry) → IsWithin es 0
 within_zero [] = refl
 within_zero (entry.Start code status ∷ es) = refl
 within_zero (entry.Bytes o piece ∷ es) = omega arith
 within_zero (entry.Stop status trailers ∷ es) = refl
 
-open_none : (es : List Entry) (closed : Option Status) → closed ≡ None → IsOpenAt es closed
+pub open_none : (es : List Entry) (closed : Option Status) → closed ≡ None → IsOpenAt es closed
 open_none [] closed is = is
 open_none (entry.Start code status ∷ es) closed is = is
 open_none (entry.Bytes o piece ∷ es) closed is = is

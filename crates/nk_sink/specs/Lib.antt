@@ -3,3 +3,4 @@ pub mod Given
 pub mod Held
 pub mod Listener
 pub mod Reached
+pub mod Sunk

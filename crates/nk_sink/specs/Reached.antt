@@ -35,6 +35,17 @@ abbrev pub listener_after : ListenerKind → List ListenerStep → Listener
 listener_after k [] = new_listener k
 listener_after k (x ∷ xs) = listener_step x (listener_after k xs)
 
+-- a listener that a new one of its kind comes to
+pub record IsReached (l : Listener) : Type 0 where
+  pub good : IsGoodKind l.kind
+  pub steps : List ListenerStep
+  pub is : l ≡ listener_after l.kind steps
+
+-- what clauses see of a listener: the model, and whether it met want of memory
+pub record ListenerView : Type 0 where
+  pub listener : Listener
+  pub failed : Bool
+
 -- THE LAWS
 
 abbrev pub OfPiped : (Piped → Type 0) → Option Piped → Type 0

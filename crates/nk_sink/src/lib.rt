@@ -2,5 +2,9 @@
 // nsIStreamListener.
 #![tactic(auto)]
 
+mod feed;
 mod given;
+mod listener;
 mod writer;
+
+pub use listener::Listener;
