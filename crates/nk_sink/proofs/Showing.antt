@@ -1,6 +1,7 @@
 -- A further entry: it stands behind the others, and what then flows is the model's.
-use Rattle.std.proofs.Common.{◌≡◌, ℕ, ◌+◌, ◌-◌, ◌*◌, ◌<◌, ◌≤◌, ◌^◌, List, [], ◌∷◌, ◌++◌, length, take, drop, Option, Some, None, Result, Ok, Err, refl, sym, ap, subst, ◌∙◌, arith}
-use Rattle.std.specs.Prelude.{OnOk, IfOk}
+use Rattle.std.proofs.Common.{false, ◌≡◌, ℕ, ◌+◌, ◌-◌, ◌*◌, ◌<◌, ◌≤◌, ◌^◌, List, [], ◌∷◌, ◌++◌, length, take, drop, Option, Some, None, Result, Ok, Err, refl, sym, ap, subst, ◌∙◌, arith}
+use Rattle.std.specs.Prelude.{OnOk}
+use Rattle.std.specs.Result.{is_err}
 use Rattle.std.proofs.lemmas.List.{length-append, length-take, append_assoc, append-nil, take-append-le, drop-append-le}
 use Rattle.nk_base.specs.declared.status.Status.{Status}
 use Rattle.nk_base.specs.declared.status.Memory.{Memory}
@@ -24,6 +25,11 @@ use Rattle.nk_sink.proofs.Pouring.{stands_count}
 use Rattle.nk_sink.proofs.Passing.{within_zero, open_none}
 use Rattle.nk_sink.proofs.Moving.{flow_segment}
 use Rattle.nk_sink.proofs.Laws as laws
+
+-- what holds of an answer that is no refusal
+pub on_ok : {X : Type 0} (r : Result X Memory) (P : Type 0) → is_err r ≡ false → OnOk r P → P
+on_ok (Ok x) P works holds = holds
+on_ok (Err e) P works holds = absurd (cc (works))
 
 -- THE SIZE OF A READ
 
