@@ -2,11 +2,12 @@ pub mod Draining
 pub mod Feeding
 pub mod Flowing
 pub mod Giving
-pub mod Laws
 pub mod Lowering
 pub mod Moving
 pub mod Passing
 pub mod Pouring
+pub mod Proved
+pub mod Rows
 pub mod Showing
 pub mod Turning
 pub mod Writing

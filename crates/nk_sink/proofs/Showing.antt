@@ -24,7 +24,7 @@ use Rattle.nk_sink.proofs.Feeding.{body_behind, stop_behind, body_append, stop_a
 use Rattle.nk_sink.proofs.Pouring.{stands_count}
 use Rattle.nk_sink.proofs.Passing.{within_zero, open_none}
 use Rattle.nk_sink.proofs.Moving.{flow_segment}
-use Rattle.nk_sink.proofs.Laws as laws
+use Rattle.nk_sink.proofs.Proved as laws
 
 -- what holds of an answer that is no refusal
 pub on_ok : {X : Type 0} (r : Result X Memory) (P : Type 0) → is_err r ≡ false → OnOk r P → P
