@@ -1,17 +1,16 @@
 -- Where no read is enabled, each pump has shown the whole body, and the stop where there was one.
-use Rattle.std.proofs.Common.{◌≡◌, ℕ, zero, suc, ◌+◌, ◌-◌, ◌*◌, ◌/◌, ◌<◌, ◌≤◌, ◌==◌, ◌||◌, Bool, true, false, List, [], ◌∷◌, ◌++◌, length, take, drop, max, replicate, Option, Some, None, refl, sym, ap, subst, ◌∙◌, arith, if◌then◌else◌}
+use Rattle.std.proofs.Common.{◌≡◌, ℕ, zero, suc, ◌+◌, ◌-◌, ◌*◌, ◌/◌, ◌<◌, ◌≤◌, ◌==◌, ◌||◌, Bool, true, false, List, [], ◌∷◌, ◌++◌, length, drop, replicate, Option, Some, None, refl, sym, ap, ◌∙◌, arith, if◌then◌else◌}
 use Rattle.std.specs.Prelude.{slice_get}
 use Rattle.std.proofs.lemmas.List.{length-drop, append-nil, take_all}
 use Rattle.std.proofs.lemmas.Nat.{mul-le}
 use native.Mathlib.Nat.{div-add-mod', mod-lt}
 use Rattle.nk_base.specs.declared.status.Status.{Status}
 use Rattle.nk_base.specs.Status.{ok, stream_closed}
-use Rattle.nk_plan.specs.declared.ends.ReaderEnd.{ReaderEnd}
-use Rattle.nk_pipe.specs.Pipe.{Pipe, Reader, greatest, room, kept_status}
-use Rattle.nk_pump.specs.Stream.{StreamEnd, Open, Good, Failed}
-use Rattle.nk_pump.specs.Shown.{Shown, answer_by, turn_answer}
-use Rattle.nk_sink.specs.Listener.{Piped, end_of, stream_of, has_done, turn_enabled, piped_enabled, pump_of, ends_by, status_behind}
-use Rattle.nk_sink.specs.Held.{ended, AreRead, closed_of, IsFull, IsPiped}
+use Rattle.nk_pipe.specs.Pipe.{Pipe, Reader, greatest, room}
+use Rattle.nk_pump.specs.Stream.{Open, Good, Failed}
+use Rattle.nk_pump.specs.Shown.{Shown, answer_by}
+use Rattle.nk_sink.specs.Listener.{Piped, end_of, stream_of, has_done, turn_enabled, piped_enabled, ends_by, status_behind}
+use Rattle.nk_sink.specs.Held.{ended, AreRead, closed_of, IsPiped}
 use Rattle.nk_sink.proofs.Turning.{ReaderOf, reader_of, pump_at}
 use Rattle.nk_sink.proofs.Lowering.{stream_is, waits}
 
@@ -104,6 +103,6 @@ drained_is body last w is few idle =
     let whole : w.pipe.written ≡ body = sym (append-nil w.pipe.written) ∙ ap (λ xs. w.pipe.written ++ xs) (sym none) ∙ is.poured.all in
     let closes : ended w.pipe.closed ≡ status_behind last = ap ended (is.closed ∙ ap (λ xs. closed_of xs w.stop) none ∙ ap (λ o. closed_of [] o) is.poured.stop) ∙ ended_is last in
     ends_are w.pumps body (status_behind last) (λ i s get.
-      let of = reader_of w.pipe.segment w.pipe.written w.pipe.closed w.pipe.readers w.pumps i s is.poured.read get in
-      let q = quiet w i s few idle get of in
-      (of.read.bytes ∙ take_all of.position w.pipe.written (omega (arith, q.end)) ∙ whole, q.stop ∙ closes))
+    let of = reader_of w.pipe.segment w.pipe.written w.pipe.closed w.pipe.readers w.pumps i s is.poured.read get in
+    let q = quiet w i s few idle get of in
+    (of.read.bytes ∙ take_all of.position w.pipe.written (omega (arith, q.end)) ∙ whole, q.stop ∙ closes))

@@ -1,11 +1,11 @@
 -- What is kept flows: all stays as it has to be.
-use Rattle.std.proofs.Common.{◌≡◌, ℕ, zero, suc, ◌+◌, ◌-◌, ◌*◌, ◌/◌, ◌<◌, ◌≤◌, Bool, true, false, List, [], ◌∷◌, ◌++◌, length, take, drop, min, replicate, Option, Some, None, refl, sym, ap, ◌∙◌, arith}
+use Rattle.std.proofs.Common.{◌≡◌, ℕ, zero, suc, ◌+◌, ◌-◌, ◌*◌, ◌/◌, ◌≤◌, List, [], ◌∷◌, ◌++◌, length, take, drop, replicate, Option, Some, None, refl, sym, ap, ◌∙◌, arith}
 use Rattle.std.proofs.lemmas.List.{length-append, length-take, length-drop, length-replicate, append_assoc, append-nil, take-append-drop, take-append-le, take_all}
 use Rattle.nk_base.specs.declared.status.Status.{Status}
 use Rattle.nk_pipe.specs.Pipe.{Pipe, Reader, reader_at, greatest, room}
 use Rattle.nk_pump.specs.Shown.{Shown, nothing_shown}
 use Rattle.nk_sink.specs.Listener.{Piped, new_piped, closed_behind, flowed}
-use Rattle.nk_sink.specs.Held.{ended, IsStopped, IsRead, AreRead, closed_of, MayFlow, IsFull, IsPoured, IsPiped}
+use Rattle.nk_sink.specs.Held.{IsStopped, IsRead, AreRead, closed_of, IsPoured, IsPiped}
 
 -- while the pipe is open no pump has stopped
 none_stopped : (o closed : Option Status) (p n m : ℕ) → IsStopped o None p n → IsStopped o closed p m
@@ -131,14 +131,17 @@ flowed_same body now w is =
 -- a new pipe
 new_read : (segment n : ℕ) → AreRead segment [] None (replicate n (reader_at 0)) (replicate n (nothing_shown segment))
 new_read segment zero = tt
-new_read segment (suc n) = (record {
-  opens = refl;
-  most = omega arith;
-  bytes = refl;
-  size = refl;
-  free = refl;
-  stop = tt;
-}, new_read segment n)
+new_read segment (suc n) = (
+  record {
+    opens = refl;
+    most = omega arith;
+    bytes = refl;
+    size = refl;
+    free = refl;
+    stop = tt;
+  },
+  new_read segment n,
+)
 
 pub new_is : (segment limit readers : ℕ) → 1 ≤ segment → 1 ≤ limit → 1 ≤ readers → IsPiped [] None (new_piped segment limit readers)
 new_is segment limit readers a b c = record {

@@ -1,15 +1,15 @@
 -- What one read gives is what the stream has next.
-use Rattle.std.proofs.Common.{zero, suc, ◌≡◌, ◌≢◌, ◌⊎◌, inl, inr, ℕ, ◌+◌, ◌-◌, ◌<◌, ◌≤◌, ◌==◌, Bool, true, false, List, [], ◌∷◌, ◌++◌, length, take, drop, min, replicate, Option, Some, None, Result, Ok, Err, refl, sym, ap, subst, ◌∙◌, arith, if◌then◌else◌}
-use Rattle.std.proofs.lemmas.List.{length-append, length-take, length-drop, length-replicate, take_at, take_all}
+use Rattle.std.proofs.Common.{zero, suc, ◌≡◌, ◌≢◌, ◌⊎◌, inl, inr, ℕ, ◌-◌, ◌≤◌, ◌==◌, Bool, true, false, List, [], ◌∷◌, ◌++◌, length, take, drop, min, replicate, Option, Some, None, Result, refl, sym, ap, ◌∙◌, arith, if◌then◌else◌}
+use Rattle.std.proofs.lemmas.List.{length-take, length-drop, length-replicate, take_at, take_all}
 use Rattle.std.proofs.lemmas.Bool.Decides.{nat_tests}
 use Rattle.nk_base.specs.declared.status.Status.{Status}
 use Rattle.nk_base.specs.Status.{stream_closed}
 use Rattle.nk_pipe.specs.declared.answer.Read.{Read}
 use Rattle.nk_pipe.specs.declared.answer.Read.TheVariants as read
 use Rattle.nk_pipe.specs.declared.answer.NoReader.{NoReader}
-use Rattle.nk_pipe.specs.Pipe.{Pipe, Reader, numbered, handed, end_answer, open_answer, read_answer, read_from}
+use Rattle.nk_pipe.specs.Pipe.{Pipe, Reader, numbered, handed, end_answer, read_answer, read_from}
 use Rattle.nk_pipe.specs.Kept.{Kept, Stands, whole}
-use Rattle.nk_pump.specs.Stream.{Stream, StreamEnd, Open, Good, Failed}
+use Rattle.nk_pump.specs.Stream.{Stream, StreamEnd, Good, Failed}
 use Rattle.nk_pump.specs.Shown.{Shown, shown_of, read_turn, turned, turned_by, turn_answer, answer_by}
 use Rattle.nk_sink.specs.Listener.{end_of, stream_at, stream_of, pipe_by, pipe_behind}
 use Rattle.nk_sink.specs.Given.{end_behind, bytes_in, answered, IsGiven, ReadsNone}
@@ -119,8 +119,7 @@ answer_reads s from stop started free =
 pub given_turn : (s : Shown) (from : Stream) (bytes : List ℕ) (end : StreamEnd) (closed : Bool) → s.stop ≡ None → s.started ≡ true → s.cancelled ≡ None → 1 ≤ s.size → IsGiven s.size from bytes end
     → (turned s (record { left = bytes; end = end; closed = closed }) ≡ turned s from) × (turn_answer s (record { left = bytes; end = end; closed = closed }) ≡ turn_answer s from)
 given_turn s from bytes end closed stop started free least given =
-    let both = shows_by s from from.left bytes end 0 refl least given.bytes_are given.end_is in
-    (
+    let both = shows_by s from from.left bytes end 0 refl least given.bytes_are given.end_is in (
       turned_reads s (record { left = bytes; end = end; closed = closed }) stop started free ∙ both.0 ∙ sym (turned_reads s from stop started free),
       answer_reads s (record { left = bytes; end = end; closed = closed }) stop started free ∙ both.1 ∙ sym (answer_reads s from stop started free),
     )

@@ -1,12 +1,12 @@
 -- A read that is enabled lowers what is left, and one that is not changes nothing.
-use Rattle.std.proofs.Common.{◌≡◌, ℕ, zero, suc, ◌+◌, ◌-◌, ◌<◌, ◌≤◌, ◌==◌, Bool, true, false, List, [], ◌∷◌, ◌++◌, length, take, drop, min, Option, Some, None, refl, sym, ap, subst, ◌∙◌, arith, if◌then◌else◌}
+use Rattle.std.proofs.Common.{◌≡◌, ℕ, zero, suc, ◌+◌, ◌-◌, ◌<◌, ◌≤◌, Bool, true, false, List, [], ◌∷◌, length, take, drop, Option, Some, None, refl, sym, ap, ◌∙◌, arith, if◌then◌else◌}
 use Rattle.std.specs.Prelude.{slice_get, slice_set}
 use Rattle.std.proofs.lemmas.List.{length-append, length-take, length-drop}
 use Rattle.nk_base.specs.declared.status.Status.{Status}
-use Rattle.nk_pipe.specs.Pipe.{Pipe, Reader, numbered, read_from}
-use Rattle.nk_pump.specs.Stream.{Stream, StreamEnd, Open, Good, Failed}
-use Rattle.nk_pump.specs.Shown.{Shown, shown_of, read_turn, turned, turned_by, turn_answer, answer_by}
-use Rattle.nk_sink.specs.Listener.{Piped, end_of, stream_of, pipe_by, pipe_behind, pump_of, read_by, has_done, turn_enabled, stop_left, pump_left, pumps_left, left_at, flowed}
+use Rattle.nk_pipe.specs.Pipe.{Pipe, numbered, read_from}
+use Rattle.nk_pump.specs.Stream.{StreamEnd, Open, Good, Failed}
+use Rattle.nk_pump.specs.Shown.{Shown, shown_of, read_turn, turned, turned_by, answer_by}
+use Rattle.nk_sink.specs.Listener.{Piped, end_of, stream_of, pipe_by, pump_of, read_by, has_done, turn_enabled, stop_left, pump_left, pumps_left, left_at, flowed}
 use Rattle.nk_sink.specs.Held.{IsRead, IsPoured, IsPiped}
 use Rattle.nk_sink.proofs.Flowing.{flowed_same}
 use Rattle.nk_sink.proofs.Turning.{ReaderOf, reader_of, reader_at_index, pump_at, set_reader, set_pump, stands, read_is}

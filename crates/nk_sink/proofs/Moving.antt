@@ -1,17 +1,17 @@
 -- A turn of one reader's pump, and what then flows, are the model's.
-use Rattle.std.proofs.Common.{◌≡◌, ◌≢◌, ℕ, zero, suc, ◌+◌, ◌-◌, ◌<◌, ◌≤◌, ◌==◌, Bool, true, false, List, [], ◌∷◌, ◌++◌, length, take, drop, replicate, get_or, Option, Some, None, refl, sym, ap, subst, ◌∙◌, arith, if◌then◌else◌}
-use Rattle.std.specs.Prelude.{slice_get, slice_set, slice_index}
+use Rattle.std.proofs.Common.{◌≡◌, ◌≢◌, ℕ, zero, suc, ◌+◌, ◌-◌, ◌<◌, ◌≤◌, ◌==◌, Bool, true, false, List, [], ◌∷◌, length, take, drop, replicate, get_or, Option, Some, None, refl, sym, ap, subst, ◌∙◌, arith}
+use Rattle.std.specs.Prelude.{slice_get, slice_set}
 use Rattle.std.proofs.lemmas.Bool.Decides.{nat_tests}
 use Rattle.std.proofs.lemmas.List.{replicate_more}
 use Rattle.nk_base.specs.declared.status.Status.{Status}
 use Rattle.nk_base.specs.declared.message.Entry.{Entry}
-use Rattle.nk_pipe.specs.Pipe.{Pipe, Reader, reader_at, new_pipe, numbered, cloned, read_from, without_reader, close_open, is_open, written_to, without_writer}
-use Rattle.nk_pipe.specs.Kept.{Kept, Stands, whole, count}
+use Rattle.nk_pipe.specs.Pipe.{Pipe, Reader, reader_at, new_pipe, numbered, cloned, read_from, written_to}
+use Rattle.nk_pipe.specs.Kept.{Kept, Stands, count}
 use Rattle.nk_pump.specs.Shown.{Shown, turned}
 use Rattle.nk_sink.specs.Listener.{Piped, closed_behind, flowed, body_of, stop_of, stream_of, pipe_by, pipe_behind, pump_of, read_by}
 use Rattle.nk_sink.specs.Held.{IsPiped}
 use Rattle.nk_sink.specs.Fed.{pipe_in, piped_with, IsOpenAt, IsAt}
-use Rattle.nk_sink.proofs.Turning.{ReaderOf, reader_of}
+use Rattle.nk_sink.proofs.Turning.{reader_of}
 
 -- the pump of a reader
 pub pump_is : (ss : List Shown) (reader : ℕ) (s : Shown) → reader ≢ 0 → slice_get ss (reader - 1) ≡ Some s → pump_of ss reader ≡ Some s

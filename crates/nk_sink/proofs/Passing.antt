@@ -1,15 +1,15 @@
 -- One entry after the other goes into the pipe.
-use Rattle.std.proofs.Common.{◌≡◌, ℕ, zero, suc, ◌+◌, ◌-◌, ◌<◌, ◌≤◌, Bool, true, false, List, [], ◌∷◌, ◌++◌, length, take, drop, min, get_or, Option, Some, None, refl, sym, ap, subst, ◌∙◌, arith, take-add, drop-drop}
+use Rattle.std.proofs.Common.{◌≡◌, ℕ, zero, suc, ◌+◌, ◌<◌, ◌≤◌, true, false, List, [], ◌∷◌, ◌++◌, length, take, drop, get_or, Option, Some, None, refl, sym, ap, subst, ◌∙◌, arith, take-add, drop-drop}
 use Rattle.std.specs.Prelude.{slice_get}
-use Rattle.std.proofs.lemmas.List.{length-append, length-take, length-drop, append-nil, take-append-le, take_all, take_at, drop-append-le, drop_all}
+use Rattle.std.proofs.lemmas.List.{length-append, length-drop, append-nil, take-append-le, take_all, take_at, drop-append-le, drop_all}
 use Rattle.nk_base.specs.declared.status.Status.{Status}
 use Rattle.nk_base.specs.declared.message.Entry.{Entry}
 use Rattle.nk_base.specs.declared.message.Entry.TheVariants as entry
 use Rattle.nk_pipe.specs.Pipe.{Pipe, Reader, room_for, room, written_to, without_writer, first_close}
 use Rattle.nk_pipe.specs.Kept.{Kept, Stands, count}
 use Rattle.nk_pump.specs.Shown.{Shown}
-use Rattle.nk_sink.specs.Listener.{Piped, closed_behind, flowed, body_of, stop_of}
-use Rattle.nk_sink.specs.Fed.{pipe_in, piped_with, IsWithin, IsOpenAt, IsAt, room_in, HasPassed, Passes, MayPass}
+use Rattle.nk_sink.specs.Listener.{flowed, body_of, stop_of}
+use Rattle.nk_sink.specs.Fed.{pipe_in, piped_with, IsWithin, IsOpenAt, IsAt, room_in, Passes, MayPass}
 use Rattle.nk_sink.proofs.Feeding.{body_append, stop_append}
 use Rattle.nk_sink.proofs.Pouring.{stands_count, split_at, splits, pipe_of, piped_of, Poured, pours, within_body, flow_on, flow_out}
 
@@ -99,14 +99,13 @@ on_bytes es k k' place next offset offset' o piece step get is fits opens each a
     let first : take (length (drop offset piece)) (drop (count k) (body_of es)) ≡ drop offset piece = ap (λ xs. take (length (drop offset piece)) xs) at.is ∙ take_at (drop offset piece) at.rest (length (drop offset piece)) refl in
     let left : drop (length (drop offset piece)) (drop (count k) (body_of es)) ≡ at.rest = ap (λ xs. drop (length (drop offset piece)) xs) at.is ∙ drop_front (drop offset piece) at.rest in
     let poured : Poured (body_of es) k k' (length (drop offset piece)) = pours (body_of es) (drop offset piece) k k' (length (drop offset piece)) is.stands opens each (take_all (room_in k) (drop offset piece) all ∙ sym first) (omega (arith, ap (λ (xs : List ℕ). length xs) at.is, length-append (drop offset piece) at.rest)) in
-    let all_of : body_of (entry.Bytes o piece ∷ []) ≡ piece = append-nil piece in
-    (
+    let all_of : body_of (entry.Bytes o piece ∷ []) ≡ piece = append-nil piece in (
       subst (λ n. IsAt es k' next n) (sym none) (moves es (entry.Bytes o piece) k' place next step get refl is.before poured.stands (ap (λ (q : Pipe). q.closed) poured.is ∙ opens)
-        (omega (arith, poured.counted, is.counted, length-drop offset piece, fits, ap (λ (xs : List ℕ). length xs) all_of))),
+          (omega (arith, poured.counted, is.counted, length-drop offset piece, fits, ap (λ (xs : List ℕ). length xs) all_of))),
       λ pumps.
-        ap flowed (piped_after es k k' (length (drop offset piece)) (drop offset piece) at.rest pumps poured opens first left)
-        ∙ flow_on k.segment k.limit (take (count k) (body_of es)) (drop offset piece) at.rest k.readers (stop_of es) pumps (omega (arith, all, room_is (body_of es) k is.stands))
-        ∙ sym (ap flowed (piped_before es k (drop offset piece ++ at.rest) pumps opens at.is)),
+          ap flowed (piped_after es k k' (length (drop offset piece)) (drop offset piece) at.rest pumps poured opens first left)
+          ∙ flow_on k.segment k.limit (take (count k) (body_of es)) (drop offset piece) at.rest k.readers (stop_of es) pumps (omega (arith, all, room_is (body_of es) k is.stands))
+          ∙ sym (ap flowed (piped_before es k (drop offset piece ++ at.rest) pumps opens at.is)),
     )
 
 -- only some of it has passed: nothing more fits
@@ -119,8 +118,7 @@ out_bytes es k k' place offset offset' o piece get is fits opens each some moved
     let first : take (room_in k) (drop offset piece) ≡ take (room_in k) (drop (count k) (body_of es)) = sym (ap (λ xs. take (room_in k) xs) at.is ∙ take-append-le (room_in k) (drop offset piece) at.rest (omega (arith, some))) in
     let poured : Poured (body_of es) k k' (room_in k) = pours (body_of es) (drop offset piece) k k' (room_in k) is.stands opens each first (omega (arith, some_left)) in
     let split = split_at es place (entry.Bytes o piece) get in
-    let room : room (pipe_of k.segment k.limit (take (count k) (body_of es)) k.readers None) ≡ room_in k = room_is (body_of es) k is.stands in
-    (
+    let room : room (pipe_of k.segment k.limit (take (count k) (body_of es)) k.readers None) ≡ room_in k = room_is (body_of es) k is.stands in (
       record {
         stands = poured.stands;
         below = is.below;
@@ -130,10 +128,10 @@ out_bytes es k k' place offset offset' o piece get is fits opens each some moved
         opens = open_none (drop place es) k'.closed (ap (λ (q : Pipe). q.closed) poured.is ∙ opens);
       },
       λ pumps.
-        piped_after es k k' (room_in k) (take (room_in k) (drop (count k) (body_of es))) (drop (room_in k) (drop (count k) (body_of es))) pumps poured opens refl refl
-        ∙ ap (λ m. piped_of (pipe_of k.segment k.limit (take (count k) (body_of es) ++ take m (drop (count k) (body_of es))) k.readers None) (drop m (drop (count k) (body_of es))) (stop_of es) pumps) (sym room)
-        ∙ flow_out k.segment k.limit (take (count k) (body_of es)) (drop (count k) (body_of es)) k.readers (stop_of es) pumps (omega (arith, some_left, room))
-        ∙ sym (ap flowed (piped_before es k (drop (count k) (body_of es)) pumps opens refl)),
+          piped_after es k k' (room_in k) (take (room_in k) (drop (count k) (body_of es))) (drop (room_in k) (drop (count k) (body_of es))) pumps poured opens refl refl
+          ∙ ap (λ m. piped_of (pipe_of k.segment k.limit (take (count k) (body_of es) ++ take m (drop (count k) (body_of es))) k.readers None) (drop m (drop (count k) (body_of es))) (stop_of es) pumps) (sym room)
+          ∙ flow_out k.segment k.limit (take (count k) (body_of es)) (drop (count k) (body_of es)) k.readers (stop_of es) pumps (omega (arith, some_left, room))
+          ∙ sym (ap flowed (piped_before es k (drop (count k) (body_of es)) pumps opens refl)),
     )
 
 -- the start passes
@@ -174,8 +172,7 @@ out_stop es k k' place offset offset' s trailers get is each same =
     let counted : count k' ≡ count k = sym (stands_count k' _ after) ∙ within_body (body_of es) k is.stands in
     let now : pipe_in (body_of es) k' ≡ pipe_of k.segment k.limit (take (count k) (body_of es)) k.readers (first_close k.closed s) =
     ap (λ (q : Pipe). pipe_of q.segment q.limit (take (count k') (body_of es)) q.readers q.closed) (sym after.2)
-    ∙ ap (λ m. pipe_of k.segment k.limit (take m (body_of es)) k.readers (first_close k.closed s)) counted in
-    (
+    ∙ ap (λ m. pipe_of k.segment k.limit (take m (body_of es)) k.readers (first_close k.closed s)) counted in (
       record {
         stands = subst (λ (q : Pipe). Stands k' q) (sym now) after;
         below = is.below;
@@ -185,12 +182,12 @@ out_stop es k k' place offset offset' s trailers get is each same =
         opens = subst (λ xs. IsOpenAt xs k'.closed) (sym split.0) tt;
       },
       λ pumps.
-        ap (λ (q : Pipe). piped_of q (drop (count k') (body_of es)) (stop_of es) pumps) now
-        ∙ ap (λ m. piped_of (pipe_of k.segment k.limit (take (count k) (body_of es)) k.readers (first_close k.closed s)) (drop m (body_of es)) (stop_of es) pumps) counted
-        ∙ ap (λ xs. piped_of (pipe_of k.segment k.limit (take (count k) (body_of es)) k.readers (first_close k.closed s)) xs (stop_of es) pumps) none
-        ∙ ap (λ o. piped_of (pipe_of k.segment k.limit (take (count k) (body_of es)) k.readers (first_close k.closed s)) [] o pumps) stop
-        ∙ flow_stop k.segment k.limit (take (count k) (body_of es)) k.readers k.closed s pumps
-        ∙ sym (ap (λ xs. flowed (piped_of (pipe_of k.segment k.limit (take (count k) (body_of es)) k.readers k.closed) xs (stop_of es) pumps)) none
+          ap (λ (q : Pipe). piped_of q (drop (count k') (body_of es)) (stop_of es) pumps) now
+          ∙ ap (λ m. piped_of (pipe_of k.segment k.limit (take (count k) (body_of es)) k.readers (first_close k.closed s)) (drop m (body_of es)) (stop_of es) pumps) counted
+          ∙ ap (λ xs. piped_of (pipe_of k.segment k.limit (take (count k) (body_of es)) k.readers (first_close k.closed s)) xs (stop_of es) pumps) none
+          ∙ ap (λ o. piped_of (pipe_of k.segment k.limit (take (count k) (body_of es)) k.readers (first_close k.closed s)) [] o pumps) stop
+          ∙ flow_stop k.segment k.limit (take (count k) (body_of es)) k.readers k.closed s pumps
+          ∙ sym (ap (λ xs. flowed (piped_of (pipe_of k.segment k.limit (take (count k) (body_of es)) k.readers k.closed) xs (stop_of es) pumps)) none
           ∙ ap (λ o. flowed (piped_of (pipe_of k.segment k.limit (take (count k) (body_of es)) k.readers k.closed) [] o pumps)) stop),
     )
 

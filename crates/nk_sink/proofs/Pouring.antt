@@ -1,15 +1,14 @@
 -- The entries go into the pipe one after the other, and what then has flowed is the model's.
-use Rattle.std.proofs.Common.{◌≡◌, ℕ, zero, suc, ◌+◌, ◌-◌, ◌*◌, ◌/◌, ◌<◌, ◌≤◌, Bool, true, false, List, [], ◌∷◌, ◌++◌, length, take, drop, min, Option, Some, None, refl, sym, ap, subst, ◌∙◌, arith, take-add}
+use Rattle.std.proofs.Common.{◌≡◌, ℕ, zero, suc, ◌+◌, ◌<◌, ◌≤◌, List, [], ◌∷◌, ◌++◌, length, take, drop, Option, Some, None, refl, sym, ap, subst, ◌∙◌, arith, take-add}
 use Rattle.std.specs.Prelude.{slice_get}
-use Rattle.std.proofs.lemmas.List.{length-append, length-take, length-drop, append_assoc, append-nil, take-append-drop, take-append-le, take_all, take_at, drop-append-le, drop_all}
+use Rattle.std.proofs.lemmas.List.{length-append, length-take, length-drop, append_assoc, take-append-drop}
 use Rattle.nk_base.specs.declared.status.Status.{Status}
 use Rattle.nk_base.specs.declared.message.Entry.{Entry}
-use Rattle.nk_base.specs.declared.message.Entry.TheVariants as entry
-use Rattle.nk_pipe.specs.Pipe.{Pipe, Reader, room_for, room, written_to, without_writer, first_close}
-use Rattle.nk_pipe.specs.Kept.{Kept, Stands, whole, count}
+use Rattle.nk_pipe.specs.Pipe.{Pipe, Reader, room_for, room, written_to}
+use Rattle.nk_pipe.specs.Kept.{Kept, Stands, count}
 use Rattle.nk_pump.specs.Shown.{Shown}
 use Rattle.nk_sink.specs.Listener.{Piped, closed_behind, flowed, body_of, stop_of}
-use Rattle.nk_sink.specs.Fed.{pipe_in, piped_with, IsWithin, IsOpenAt, IsAt, room_in, HasPassed, Passes, MayPass}
+use Rattle.nk_sink.specs.Fed.{pipe_in, room_in}
 use Rattle.nk_sink.proofs.Feeding.{body_append, stop_append}
 
 -- a model's list is as long as what was written
@@ -103,7 +102,7 @@ flow_on segment limit written x y readers stop pumps fits =
     let kept : drop (room (pipe_of segment limit written readers None)) (x ++ y) ≡ drop (room (pipe_of segment limit (written ++ x) readers None)) y = ap (λ m. drop m (x ++ y)) split ∙ drop_past x y (room (pipe_of segment limit (written ++ x) readers None)) in
     let taken : written ++ take (room (pipe_of segment limit written readers None)) (x ++ y) ≡ (written ++ x) ++ take (room (pipe_of segment limit (written ++ x) readers None)) y = ap (λ m. written ++ take m (x ++ y)) split ∙ ap (λ xs. written ++ xs) (take_past x y (room (pipe_of segment limit (written ++ x) readers None))) ∙ sym (append_assoc written x (take (room (pipe_of segment limit (written ++ x) readers None)) y)) in
     sym (ap (λ xs. piped_of (closed_behind xs stop (pipe_of segment limit (written ++ take (room (pipe_of segment limit written readers None)) (x ++ y)) readers None)) xs stop pumps) kept
-        ∙ ap (λ xs. piped_of (closed_behind (drop (room (pipe_of segment limit (written ++ x) readers None)) y) stop (pipe_of segment limit xs readers None)) (drop (room (pipe_of segment limit (written ++ x) readers None)) y) stop pumps) taken)
+    ∙ ap (λ xs. piped_of (closed_behind (drop (room (pipe_of segment limit (written ++ x) readers None)) y) stop (pipe_of segment limit xs readers None)) (drop (room (pipe_of segment limit (written ++ x) readers None)) y) stop pumps) taken)
 
 not_closed : (kept : List ℕ) (stop : Option Status) (p : Pipe) → 0 < length kept → closed_behind kept stop p ≡ p
 not_closed [] stop p some = absurd (omega (arith, some))

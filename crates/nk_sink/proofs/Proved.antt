@@ -1,5 +1,5 @@
 -- The laws over every listener that entries and reads come to.
-use Rattle.std.proofs.Common.{◌≡◌, ℕ, ◌+◌, ◌<◌, ◌≤◌, Bool, true, false, List, [], ◌∷◌, ◌++◌, length, replicate, zero, suc, Option, Some, None, refl, sym, ap, ◌∙◌, arith}
+use Rattle.std.proofs.Common.{◌≡◌, ℕ, ◌<◌, ◌≤◌, true, false, List, [], ◌∷◌, ◌++◌, length, replicate, zero, suc, Option, Some, None, refl, ap, ◌∙◌, arith}
 use Rattle.std.specs.Prelude.{slice_set}
 use Rattle.std.proofs.lemmas.List.{length-replicate}
 use Rattle.nk_base.specs.declared.status.Status.{Status}
@@ -10,9 +10,9 @@ use Rattle.nk_plan.specs.declared.plan.ListenerKind.TheVariants as kind
 use Rattle.nk_plan.specs.declared.ends.ReaderEnd.{ReaderEnd}
 use Rattle.nk_pipe.specs.Pipe.{Pipe, room}
 use Rattle.nk_pump.specs.Shown.{Shown, nothing_shown}
-use Rattle.nk_sink.specs.Listener.{Piped, Listener, piped_of, fed, if_piped, pump_of, read_by, read_turn, piped_enabled, ends_at, left_at, body_of, stop_of, status_behind}
-use Rattle.nk_sink.specs.Reached.{IsGoodKind, ListenerStep, Enter, Turn, listener_after, OfPiped, KeepsAll, KeptLaw, LowersLaw, IdleLaw, IsDrained, readers_of, ReadersLaw}
-use Rattle.nk_sink.specs.Held.{IsFull, IsPiped}
+use Rattle.nk_sink.specs.Listener.{Piped, piped_of, fed, if_piped, pump_of, read_by, piped_enabled, ends_at, left_at, body_of, stop_of, status_behind}
+use Rattle.nk_sink.specs.Reached.{IsGoodKind, ListenerStep, Enter, Turn, listener_after, OfPiped, KeepsAll, KeptLaw, LowersLaw, IdleLaw, readers_of, ReadersLaw}
+use Rattle.nk_sink.specs.Held.{IsFull}
 use Rattle.nk_sink.specs.Sunk.{IsPipedIn}
 use Rattle.nk_sink.proofs.Flowing.{new_is}
 use Rattle.nk_sink.proofs.Feeding.{fed_is}

@@ -1,12 +1,12 @@
 -- Worked rows: what listeners come to. Each row is a computation.
-use Rattle.std.proofs.Common.{◌≡◌, ℕ, zero, suc, false, true, List, [], ◌∷◌, ◌++◌, length, replicate, Option, Some, None, refl}
+use Rattle.std.proofs.Common.{◌≡◌, ℕ, zero, suc, false, List, [], ◌∷◌, ◌++◌, length, replicate, Option, Some, None, refl}
 use Rattle.nk_base.specs.declared.status.Status.{Status}
 use Rattle.nk_base.specs.declared.message.Entry.{Entry}
 use Rattle.nk_base.specs.declared.message.Entry.TheVariants as entry
 use Rattle.nk_base.specs.Status.{ok}
 use Rattle.nk_plan.specs.declared.plan.ListenerKind.TheVariants as kind
 use Rattle.nk_plan.specs.declared.ends.ReaderEnd.{ReaderEnd}
-use Rattle.nk_sink.specs.Listener.{Piped, Listener, new_listener, entered, entered_all, read_turn, read_enabled, ends_of, reads_left, if_piped}
+use Rattle.nk_sink.specs.Listener.{Piped, Listener, new_listener, entered_all, read_turn, read_enabled, ends_of, reads_left}
 
 abbrev body : List ℕ
 body = replicate 20 0x61

@@ -1,5 +1,5 @@
 -- A further entry: it stands behind the others, and what then flows is the model's.
-use Rattle.std.proofs.Common.{false, ◌≡◌, ℕ, ◌+◌, ◌-◌, ◌*◌, ◌<◌, ◌≤◌, ◌^◌, List, [], ◌∷◌, ◌++◌, length, take, drop, Option, Some, None, Result, Ok, Err, refl, sym, ap, subst, ◌∙◌, arith}
+use Rattle.std.proofs.Common.{false, ◌≡◌, ℕ, ◌+◌, ◌<◌, ◌≤◌, ◌^◌, List, [], ◌∷◌, ◌++◌, length, take, drop, Option, Some, None, Result, Ok, Err, refl, sym, ap, subst, ◌∙◌, arith}
 use Rattle.std.specs.Prelude.{OnOk}
 use Rattle.std.specs.Result.{is_err}
 use Rattle.std.proofs.lemmas.List.{length-append, length-take, append_assoc, append-nil, take-append-le, drop-append-le}
@@ -15,7 +15,7 @@ use Rattle.nk_pump.specs.Shown.{Shown}
 use Rattle.nk_sink.specs.declared.feed.Feed.{Feed}
 use Rattle.nk_sink.specs.declared.writer.Writer.{Writer}
 use Rattle.nk_sink.specs.Listener.{Piped, Listener, flowed, fed, if_piped, entered, read_turn, body_of, stop_of, pump_of, read_by, ends_by}
-use Rattle.nk_sink.specs.Reached.{IsGoodKind, IsReached, ListenerStep, Enter, Turn, listener_after}
+use Rattle.nk_sink.specs.Reached.{IsReached, Enter, Turn}
 use Rattle.nk_sink.specs.Held.{IsPiped}
 use Rattle.nk_sink.specs.Fed.{pipe_in, piped_with, IsWithin, IsOpenAt, IsAt}
 use Rattle.nk_sink.specs.Sunk.{piped_in, listener_of, IsFed, IsFedIn, IsPipedIn, IsListening}

@@ -1,15 +1,15 @@
 -- A turn of a reader's pump: what it has shown stays what its reader has read.
-use Rattle.std.proofs.Common.{◌≡◌, ℕ, zero, suc, ◌+◌, ◌-◌, ◌<◌, ◌≤◌, ◌==◌, Bool, true, false, List, [], ◌∷◌, ◌++◌, length, take, drop, min, Option, Some, None, refl, sym, ap, subst, ◌∙◌, arith, if◌then◌else◌}
+use Rattle.std.proofs.Common.{◌≡◌, ℕ, zero, suc, ◌+◌, ◌-◌, ◌≤◌, ◌==◌, Bool, true, false, List, [], ◌∷◌, ◌++◌, length, take, drop, Option, Some, None, refl, sym, ap, subst, ◌∙◌, arith, if◌then◌else◌}
 use Rattle.std.specs.Prelude.{slice_get, slice_set}
 use Rattle.std.proofs.lemmas.List.{length-take, length-drop, take_all, take_min}
 use Rattle.std.proofs.lemmas.Bool.Decides.{nat_tests}
 use Rattle.nk_base.specs.declared.status.Status.{Status}
-use Rattle.nk_base.specs.Status.{ok, stream_closed}
-use Rattle.nk_pipe.specs.Pipe.{Pipe, Reader, numbered, moved, handed}
-use Rattle.nk_pump.specs.Stream.{Stream, StreamEnd, Open, Good, Failed}
-use Rattle.nk_pump.specs.Shown.{Shown, stopped, shown_of, turned, turned_by}
-use Rattle.nk_sink.specs.Listener.{Piped, end_of, stream_by, stream_at, stream_of, pipe_by, pipe_behind, pump_of, read_by}
-use Rattle.nk_sink.specs.Held.{ended, IsStopped, IsRead, AreRead, IsPoured, IsPiped}
+use Rattle.nk_base.specs.Status.{stream_closed}
+use Rattle.nk_pipe.specs.Pipe.{Reader, numbered}
+use Rattle.nk_pump.specs.Stream.{Good, Failed}
+use Rattle.nk_pump.specs.Shown.{Shown, shown_of, turned, turned_by}
+use Rattle.nk_sink.specs.Listener.{Piped, end_of, stream_of, pipe_by, pipe_behind, pump_of, read_by}
+use Rattle.nk_sink.specs.Held.{IsRead, AreRead, IsPoured, IsPiped}
 use Rattle.nk_sink.proofs.Flowing.{flows}
 
 -- the reader and the pump of a number, which stand at the index below it
@@ -179,7 +179,7 @@ turns_by body now w i s None true None st ca get is of =
     let name : numbered w.pipe.readers (suc i) ≡ Some (record { start = of.start; position = of.position; closed = None }) = reader_at_index w.pipe.readers i ∙ of.get in
     let same : suc i - 1 ≡ i = omega arith in
     rw (name, same) (poured_set body now w i (record { start = of.start; position = of.position + length (take s.size (drop of.position w.pipe.written)); closed = None }) (shown_of (drop of.position w.pipe.written) (end_of w.pipe.closed) s) is
-      (reads w.pipe.segment w.pipe.written w.pipe.closed of.start of.position s st of.read))
+    (reads w.pipe.segment w.pipe.written w.pipe.closed of.start of.position s st of.read))
 
 pub turns : (body : List ℕ) (now : Option Status) (w : Piped) (i : ℕ) (s : Shown) → slice_get w.pumps i ≡ Some s → IsPoured body now w
     → IsPoured body now (record w { pipe = pipe_behind s (suc i) w.pipe; pumps = slice_set w.pumps i (turned s (stream_of (suc i) w.pipe)) })

@@ -1,5 +1,5 @@
 -- What a write answers, and what it leaves.
-use Rattle.std.proofs.Common.{◌≡◌, ◌⊎◌, inl, inr, ℕ, ◌+◌, ◌-◌, ◌<◌, ◌≤◌, ◌==◌, ◌&&◌, Bool, true, false, List, [], ◌∷◌, ◌++◌, length, min, Option, Some, None, Result, Ok, Err, refl, sym, ap, subst, ◌∙◌, arith, if◌then◌else◌}
+use Rattle.std.proofs.Common.{◌≡◌, ◌⊎◌, inl, inr, ℕ, ◌==◌, ◌&&◌, Bool, true, false, List, length, min, None, Result, Ok, Err, refl, sym, ap, ◌∙◌, arith, if◌then◌else◌}
 use Rattle.std.specs.Prelude.{nat_lt, IfOk, OnOk}
 use Rattle.std.proofs.lemmas.Bool.Decides.{nat_tests}
 use Rattle.nk_base.specs.declared.status.Status.{Status}
@@ -7,7 +7,7 @@ use Rattle.nk_base.specs.declared.status.Memory.{Memory}
 use Rattle.nk_pipe.specs.declared.answer.Write.{Write}
 use Rattle.nk_pipe.specs.declared.answer.Write.TheVariants as write
 use Rattle.nk_pipe.specs.Pipe.{Pipe, room_for, write_count, write_answer, written_to}
-use Rattle.nk_pipe.specs.Kept.{Kept, Stands, whole, count}
+use Rattle.nk_pipe.specs.Kept.{Kept, Stands}
 use Rattle.nk_sink.specs.Fed.{room_in, HasPassed}
 use Rattle.nk_sink.proofs.Giving.{some_model}
 use Rattle.nk_sink.proofs.Pouring.{stands_count}

@@ -1,6 +1,5 @@
 -- What one read of a pipe gave, as a stream. No public clause cites this module.
-use Rattle.std.specs.Prelude.{ℕ, ◌≡◌, ◌≢◌, ◌⊎◌, false, List, [], take, Option, None, Result, Ok, Err}
-use Rattle.nk_base.specs.declared.status.Status.{Status}
+use Rattle.std.specs.Prelude.{ℕ, ◌≡◌, ◌≢◌, ◌⊎◌, false, List, [], take, None, Result, Ok, Err}
 use Rattle.nk_pipe.specs.declared.answer.Read.{Read}
 use Rattle.nk_pipe.specs.declared.answer.Read.TheVariants as read
 use Rattle.nk_pipe.specs.declared.answer.NoReader.{NoReader}

@@ -1,5 +1,5 @@
 -- How a listener stands for the model. No public clause cites this module.
-use Rattle.std.specs.Prelude.{ℕ, ◌≡◌, ◌+◌, ◌*◌, ◌≤◌, ◌<◌, ◌^◌, List, length, Option, Some, None}
+use Rattle.std.specs.Prelude.{◌≡◌, ◌*◌, ◌≤◌, ◌^◌, List, length, Option, Some, None}
 use Rattle.nk_base.specs.declared.message.Entry.{Entry}
 use Rattle.nk_plan.specs.declared.plan.ListenerKind.{ListenerKind}
 use Rattle.nk_sink.specs.declared.feed.Feed.{Feed}

@@ -28,12 +28,7 @@ pub(crate) struct Feed {
 
 impl Feed {
     /// A new pipe with this number of readers.
-    pub(crate) fn new(
-        alloc: Global,
-        segment: u32,
-        limit: u32,
-        readers: u8,
-    ) -> Result<Feed, Memory>
+    pub(crate) fn new(alloc: Global, segment: u32, limit: u32, readers: u8) -> Result<Feed, Memory>
         requires { IsPipeKind segment limit readers }
         ensures pipe { IfOk result (λ f. Stands f.writer.pipe (record (new_pipe segment limit) { readers = replicate readers (reader_at 0) })) }
         ensures count { IfOk result (λ f. count f.writer.pipe ≡ 0) }

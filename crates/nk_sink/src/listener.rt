@@ -125,12 +125,7 @@ impl Listener {
 }
 
 /// Adds an entry, and lets it flow. On want of memory the entries are as before.
-fn show(
-    alloc: Global,
-    entries: &mut Trace,
-    feed: &mut Option<Feed>,
-    e: Entry,
-) -> Result<(), Memory>
+fn show(alloc: Global, entries: &mut Trace, feed: &mut Option<Feed>, e: Entry) -> Result<(), Memory>
     requires fed { IsFedIn entries.old feed.old }
     requires piped { IsPipedIn entries.old (piped_in entries.old feed.old) }
     requires few { length (body_of entries.old) < 2 ^ 61 }

@@ -1,5 +1,5 @@
 -- One more reader stands at the start.
-use Rattle.std.proofs.Common.{◌≡◌, ◌+◌, ◌∙◌, subst, ap, arith}
+use Rattle.std.proofs.Common.{◌∙◌, subst, ap, arith}
 use Rattle.nk_pipe.specs.Pipe.{Pipe, numbered, cloned}
 use Rattle.nk_pipe.specs.Kept.{Stands}
 use Rattle.nk_sink.proofs.Moving.{pipe_with, cloned_is}

@@ -1,5 +1,5 @@
 -- The bytes in the buffer are the next of the stream.
-use Rattle.std.proofs.Common.{◌≤◌, length, take, arith}
+use Rattle.std.proofs.Common.{◌≤◌, length, arith}
 use Rattle.std.proofs.lemmas.List.{length-take}
 use Rattle.nk_sink.proofs.Giving.{few_in, given_is}
 use Rattle.nk_sink.proofs.given.give.Goals as goal

@@ -1,5 +1,5 @@
 -- As many bytes as there is room for.
-use Rattle.std.proofs.Common.{◌≡◌, refl, sym, ◌∙◌}
+use Rattle.std.proofs.Common.{sym, ◌∙◌}
 use Rattle.nk_sink.proofs.Writing.{wrote_is, refused_is}
 use Rattle.nk_sink.proofs.writer.pour.Goals as goal
 

@@ -1,5 +1,4 @@
 -- A read still takes one segment.
-use Rattle.std.proofs.Common.{◌≡◌}
 use Rattle.nk_sink.proofs.Showing.{fed_after}
 use Rattle.nk_sink.proofs.feed.Feed.flow.Goals as goal
 

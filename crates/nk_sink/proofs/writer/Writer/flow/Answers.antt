@@ -1,7 +1,7 @@
 -- Each entry passes, and what then flows is the same.
-use Rattle.std.proofs.Common.{◌≡◌, ℕ, suc, ◌+◌, Bool, false, true, sym, subst, ◌∙◌, arith}
+use Rattle.std.proofs.Common.{◌≡◌, ℕ, suc, ◌+◌, Bool, sym, subst, ◌∙◌, arith}
 use Rattle.nk_sink.specs.Fed.{Passes, IsAt}
-use Rattle.nk_sink.proofs.Passing.{passes_on, passes_out, at_end, read_get, may_pass}
+use Rattle.nk_sink.proofs.Passing.{passes_on, passes_out, at_end, read_get}
 use Rattle.nk_sink.proofs.writer.Writer.flow.Goals as goal
 
 pub returns-then-not-branch-clause-at : goal.returns-then-not-branch-clause-at

@@ -1,5 +1,5 @@
 -- Each kind of entry passes as it is said.
-use Rattle.std.proofs.Common.{◌≡◌, refl}
+use Rattle.std.proofs.Common.{refl}
 use Rattle.nk_sink.proofs.Writing.{passes_bytes}
 use Rattle.nk_sink.proofs.writer.Writer.pass.Goals as goal
 

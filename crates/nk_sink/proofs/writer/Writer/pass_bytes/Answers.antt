@@ -1,5 +1,5 @@
 -- What was written is the rest of the piece, as far as it fits.
-use Rattle.std.proofs.Common.{ℕ, List, length, drop, take, take_all, subst, arith}
+use Rattle.std.proofs.Common.{ℕ, List, drop, take_all, subst, arith}
 use Rattle.std.proofs.lemmas.List.{length-drop}
 use Rattle.nk_pipe.specs.Pipe.{written_to}
 use Rattle.nk_pipe.specs.Kept.{Stands}
