@@ -11,11 +11,11 @@ use Rattle.nk_segments.proofs.Onward.{held_here}
 use Rattle.nk_pipe.specs.declared.cursor.Cursor.{Cursor}
 use Rattle.nk_pipe.specs.declared.reader.Reader.{Reader as Tracked}
 use Rattle.nk_pipe.specs.Pipe.{has_open}
-use Rattle.nk_pipe.specs.Kept.{OpenAt}
+use Rattle.nk_pipe.specs.Kept.{OpenAt, ReachesBy}
 use Rattle.nk_pipe.specs.Laid.{seen, all_seen, joined, filled, kept_bytes, past, standing, IsPlaced, IsLaid, IsPipe}
 use Rattle.nk_pipe.proofs.CursorLemmas.{cursor_end, end_behind}
 use Rattle.nk_pipe.proofs.CountLemmas.{held_since, standing_some}
-use Rattle.nk_pipe.proofs.ReaderLemmas.{seen_get}
+use Rattle.nk_pipe.proofs.ReaderLemmas.{seen_get, open_get}
 use Rattle.nk_pipe.proofs.LaidLemmas.{Loses, has_open-set, placed_open, reader_at_place}
 
 -- as many bytes were written as were given back and are kept
@@ -151,3 +151,10 @@ take_kept ahead k n segments fits =
 pub live-at : (f : Segment → Segment) (segments : List (Place × Segment)) (place other : Place) → IsLive segments other → IsLive (changed_at f segments place) other
 live-at f [] place other live = live
 live-at f (e ∷ rest) place other live = grind (arith, nat_tests, live, live-at f rest place other)
+
+-- what is kept reaches back to an open reader
+pub reaches_by : (size limit written ahead : ℕ) (segments : Segments) (readers : List Tracked) (writer : Cursor) (closed : Option Status) (i : ℕ) (r : Tracked) (o : Option Status)
+    → IsPipe size limit segments readers writer written ahead closed → slice_get readers i ≡ Some r → r.closed ≡ o → ReachesBy o (past segments.segments written ahead) r.position
+reaches_by size limit written ahead segments readers writer closed i r (Some s) is get closes = tt
+reaches_by size limit written ahead segments readers writer closed i r None is get opens =
+    (reading size limit written ahead segments readers writer closed i r is (open_get readers i r get opens) get).placed.0

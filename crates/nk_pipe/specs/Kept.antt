@@ -32,6 +32,15 @@ whole gone k = record {
 abbrev pub Stands : Kept → Pipe → Type 0
 Stands k p = (gone : List ℕ) × (length gone ≡ k.past) × (p ≡ whole gone k)
 
+-- what is kept reaches back to where an open reader stands
+abbrev pub ReachesBy : Option Status → ℕ → ℕ → Type 0
+ReachesBy (Some s) past position = Unit {0}
+ReachesBy None past position = past ≤ position
+
+abbrev pub Reaches : Option Reader → ℕ → Type 0
+Reaches None past = Unit {0}
+Reaches (Some r) past = ReachesBy r.closed past r.position
+
 -- the first of the kept bytes were given back, and nothing else changed
 abbrev pub Forgets : Kept → Kept → Type 0
 Forgets k k' =

@@ -2,7 +2,7 @@
 
 ghost use Rattle.std.specs.Prelude.{◌≡◌, ◌+◌, ◌<◌, ◌≤◌, ◌^◌, ◌++◌, [], ◌∷◌, true, length, drop, IfOk, OnOk, OnErr, None};
 ghost use Rattle.nk_pipe.specs.Pipe.{Pipe as PipeModel, new_pipe, numbered, has_open, write_count, write_answer, written_to, read_answer, read_from, handed, clone_answer, cloned, close_answer, without_reader, without_writer, position_of};
-ghost use Rattle.nk_pipe.specs.Kept.{Stands, count};
+ghost use Rattle.nk_pipe.specs.Kept.{Stands, count, Reaches};
 ghost use Rattle.nk_pipe.specs.Answers.{OrMemory};
 
 use crate::answer::{CloneError, NoReader, Read, Write};
@@ -169,7 +169,8 @@ impl Pipe {
 
     /// How far a reader is, `None` exactly where that number was never given.
     pub fn position(&self, reader: u32) -> Option<u64>
-        ensures { (p : PipeModel) → Stands self.now p → result ≡ position_of (numbered p.readers reader) }
+        ensures position { (p : PipeModel) → Stands self.now p → result ≡ position_of (numbered p.readers reader) }
+        ensures reaches { Reaches (numbered self.now.readers reader) self.now.past }
     {
         match self.index(reader) {
             Some(i) => Some(self.readers[i].position),

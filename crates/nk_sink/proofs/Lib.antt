@@ -11,3 +11,4 @@ pub mod Rows
 pub mod Showing
 pub mod Turning
 pub mod Writing
+pub mod Lending

@@ -4,3 +4,4 @@ pub mod Held
 pub mod Listener
 pub mod Reached
 pub mod Sunk
+pub mod Lent

@@ -6,10 +6,12 @@ mod feed;
 mod given;
 mod laws;
 mod listener;
+mod pipe_reader;
 mod writer;
 
 pub use laws::{kept_law, readers_law, reads_law};
 pub use listener::Listener;
+pub use pipe_reader::PipeReader;
 
 #[cfg(test)]
 mod tests;

@@ -3,9 +3,11 @@
 ghost use Rattle.std.specs.Prelude.{◌≡◌, ◌<◌, ◌^◌, length, IfOk};
 ghost use Rattle.nk_sink.specs.Reached.{IsGoodKind};
 
-use crate::Listener;
+use crate::{Listener, PipeReader};
 use nk_base::{Entry, Fields, Memory, Moved, Piece, Status};
+use nk_pipe::{Pipe, Write};
 use nk_plan::{ListenerKind, Readers};
+use nk_pump::{Pump, Turn};
 use std::alloc::Global;
 use std::test::Fail;
 
@@ -122,5 +124,28 @@ fn a_plain_listener_keeps_the_entries_alone(rt: HostRuntime) -> Result<(), Fail>
     assert_eq!(rt; listener.entries().len(), 3);
     assert_eq!(rt; listener.read(1)?, Moved::Idle);
     assert_eq!(rt; listener.into_ends()?.len(), 0);
+    Ok(())
+}
+
+#[test]
+fn a_cancel_closes_the_only_reader_and_so_the_pipe(rt: HostRuntime) -> Result<(), Fail> {
+    let (mut pipe, one) = Pipe::new(rt.alloc(), 4, 2)?;
+    assert_eq!(rt; pipe.write(b"abc"), Ok(Write::Wrote(3)));
+    let mut pump = Pump::new(rt.alloc(), 4)?;
+    let mut stream = PipeReader::new(&mut pipe, one);
+    for want in [Turn::Did, Turn::Did, Turn::Waiting] {
+        assert_eq!(rt; pump.turn(&mut stream)?, want);
+    }
+    pump.cancel(Status::BINDING_ABORTED);
+    for want in [Turn::Did, Turn::Dead] {
+        assert_eq!(rt; pump.turn(&mut stream)?, want);
+    }
+    assert_eq!(rt; pump.stop(), Some(Status::BINDING_ABORTED));
+    assert_eq!(rt; pump.bytes().as_slice(), b"abc".as_slice());
+    assert!(rt; pipe.written() < 4);
+    assert_eq!(rt;
+        pipe.write(b"d"),
+        Ok(Write::Closed(Status::BINDING_ABORTED))
+    );
     Ok(())
 }
