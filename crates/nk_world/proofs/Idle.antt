@@ -1,0 +1,92 @@
+-- A step that is not enabled changes nothing, and so does a round of such steps. So more rounds than are needed change
+-- nothing, and what a drain leaves is one.
+use Rattle.std.proofs.Common.{ℕ, zero, suc, ◌≡◌, ◌+◌, ◌-◌, ◌≤◌, ◌<◌, ◌⊎◌, inl, inr, refl, sym, ◌∙◌, ap, subst, Bool, true, false, not, ◌&&◌, List, [], ◌∷◌, length, drop, arith}
+use Rattle.nk_base.specs.declared.message.Entry.{Entry}
+use Rattle.nk_plan.specs.declared.step.Step.{Step}
+use Rattle.nk_plan.specs.declared.step.Step.TheVariants.{Act, Verdict, Fetch, Up, Forward, Main, Back, Release, Begin, Finish, Read}
+use Rattle.nk_plan.specs.Channel.{Channel, channel_step}
+use Rattle.nk_sink.specs.Listener.{Listener, entered_all, read_enabled, read_turn}
+use Rattle.nk_sink.specs.Reached.{IdleLaw}
+use Rattle.nk_drain.specs.Laws as drain
+use Rattle.nk_laws.proofs.Tools.{one, other, by_bool, le_or_more}
+use Rattle.nk_world.specs.Play.{Play, shown_since, play_step, play_enabled, tried, are_idle, round_steps, round, rounds, IsReached, IsQuiet, IsDrained}
+use Rattle.nk_world.proofs.Plays.{reached_step, none_shown}
+use Rattle.nk_world.proofs.Heard.{Heard, heard, good_kind}
+
+-- what the layers below say of a step that is not enabled
+pub record IdleLaws : Type 0 where
+  pub channel : drain.IdleLaw
+  pub listener : IdleLaw
+
+unmoved : (p : Play) (w : Channel) → w ≡ p.channel
+    → (let q : Play = record { plan = p.plan; channel = w; listener = entered_all (shown_since p.channel w) p.listener } in q) ≡ p
+unmoved p w e =
+    ap (λ (v : Channel). let q : Play = record { plan = p.plan; channel = v; listener = entered_all (shown_since p.channel v) p.listener } in q) e
+    ∙ ap (λ (es : List Entry). let q : Play = record { plan = p.plan; channel = p.channel; listener = entered_all es p.listener } in q) (none_shown p.channel.child.trace)
+
+unread : (p : Play) (reader : ℕ) → IsReached p → IdleLaw → read_enabled reader p.listener ≡ false → read_turn reader p.listener ≡ p.listener
+unread p reader r law e =
+    let h : Heard p.plan.listener p.listener = heard p r in
+    let P : Listener → Type 0 = λ l. read_enabled reader l ≡ false → read_turn reader l ≡ l in
+    subst P h.led (law p.plan.listener h.steps reader (good_kind p.plan r.accepted)) e
+
+pub idle_step : (x : Step) (p : Play) → IsReached p → IdleLaws → play_enabled x p ≡ false → play_step x p ≡ p
+idle_step Act p r law e = unmoved p (channel_step p.plan Act p.channel) (law.channel p.plan Act p.channel e)
+idle_step Verdict p r law e = unmoved p (channel_step p.plan Verdict p.channel) (law.channel p.plan Verdict p.channel e)
+idle_step Fetch p r law e = unmoved p (channel_step p.plan Fetch p.channel) (law.channel p.plan Fetch p.channel e)
+idle_step Up p r law e = unmoved p (channel_step p.plan Up p.channel) (law.channel p.plan Up p.channel e)
+idle_step Forward p r law e = unmoved p (channel_step p.plan Forward p.channel) (law.channel p.plan Forward p.channel e)
+idle_step Main p r law e = unmoved p (channel_step p.plan Main p.channel) (law.channel p.plan Main p.channel e)
+idle_step Back p r law e = unmoved p (channel_step p.plan Back p.channel) (law.channel p.plan Back p.channel e)
+idle_step Release p r law e = unmoved p (channel_step p.plan Release p.channel) (law.channel p.plan Release p.channel e)
+idle_step (Begin t) p r law e = unmoved p (channel_step p.plan (Begin t) p.channel) (law.channel p.plan (Begin t) p.channel e)
+idle_step (Finish t) p r law e = unmoved p (channel_step p.plan (Finish t) p.channel) (law.channel p.plan (Finish t) p.channel e)
+idle_step (Read reader) p r law e = ap (λ (l : Listener). record p { listener = l }) (unread p reader r law.listener e)
+
+pub not_enabled : (b : Bool) → not b ≡ true → b ≡ false
+not_enabled true h = cc
+not_enabled false h = refl
+
+pub idle_all : (xs : List Step) (p : Play) → IsReached p → IdleLaws → are_idle xs p ≡ true → tried xs p ≡ p
+idle_all [] p r law h = refl
+idle_all (x ∷ xs) p r law h =
+    let e : play_step x p ≡ p = idle_step x p r law (not_enabled (play_enabled x p) (one (not (play_enabled x p)) (are_idle xs p) h)) in
+    ap (λ (q : Play). tried xs q) e ∙ idle_all xs p r law (other (not (play_enabled x p)) (are_idle xs p) h)
+
+pub idle_round : (p : Play) → IsReached p → IdleLaws → IsQuiet p → round p ≡ p
+idle_round p r law h = idle_all round_steps p r law h
+
+pub idle_rounds : (n : ℕ) (p : Play) → IsReached p → IdleLaws → IsQuiet p → rounds n p ≡ p
+idle_rounds zero p r law h = refl
+idle_rounds (suc n) p r law h = ap (λ (q : Play). rounds n q) (idle_round p r law h) ∙ idle_rounds n p r law h
+
+-- where steps lead to
+
+pub reached_all : (xs : List Step) (p : Play) → IsReached p → IsReached (tried xs p)
+reached_all [] p r = r
+reached_all (x ∷ xs) p r = reached_all xs (play_step x p) (reached_step x p r)
+
+pub reached_rounds : (n : ℕ) (p : Play) → IsReached p → IsReached (rounds n p)
+reached_rounds zero p r = r
+reached_rounds (suc n) p r = reached_rounds n (round p) (reached_all round_steps p r)
+
+-- more rounds
+
+rounds_more : (n m : ℕ) (p : Play) → rounds (n + m) p ≡ rounds m (rounds n p)
+rounds_more zero m p = let e : 0 + m ≡ m = omega arith in ap (λ k. rounds k p) e
+rounds_more (suc n) m p = let e : suc n + m ≡ suc (n + m) = omega arith in ap (λ k. rounds k p) e ∙ rounds_more n m (round p)
+
+pub enough_rounds : (n k : ℕ) (p : Play) → IsReached p → IdleLaws → IsQuiet (rounds n p) → n ≤ k → rounds k p ≡ rounds n p
+enough_rounds n k p r law h l =
+    let e : k ≡ n + (k - n) = omega arith in
+    ap (λ i. rounds i p) e ∙ (rounds_more n (k - n) p ∙ idle_rounds (k - n) (rounds n p) (reached_rounds n p r) law h)
+
+-- what a drain leaves of a channel is one
+pub one_drained : (p q q' : Play) → IsReached p → IdleLaws → IsDrained p q → IsDrained p q' → q ≡ q'
+one_drained p q q' r law d d' =
+    let h : IsQuiet (rounds d.0 p) = subst IsQuiet (sym d.1) d.2 in
+    let h' : IsQuiet (rounds d'.0 p) = subst IsQuiet (sym d'.1) d'.2 in
+    elim (le_or_more d.0 d'.0) [
+      | inl l ↦ sym d.1 ∙ (sym (enough_rounds d.0 d'.0 p r law h l) ∙ d'.1)
+      | inr l ↦ sym d.1 ∙ (enough_rounds d'.0 d.0 p r law h' (omega arith) ∙ d'.1)
+    ]

@@ -1,0 +1,109 @@
+-- What each step leaves of the lanes of a channel that some steps led to.
+use Rattle.std.proofs.Common.{ℕ, suc, ◌≡◌, ◌+◌, ◌≤◌, refl, sym, ◌∙◌, ap, List, [], ◌∷◌, ◌++◌, length, take, drop, append_assoc, arith, length-append}
+use Rattle.std.proofs.lemmas.List.{drop-append-le, drop-drop, take-append-le}
+use Rattle.nk_base.specs.declared.message.MainMsg.{MainMsg}
+use Rattle.nk_base.specs.declared.message.BackMsg.{BackMsg}
+use Rattle.nk_base.specs.declared.message.UpMsg.{UpMsg}
+use Rattle.nk_plan.specs.declared.plan.ChannelPlan.{ChannelPlan}
+use Rattle.nk_plan.specs.declared.journal.ParentEntry.{ParentEntry}
+use Rattle.nk_plan.specs.declared.journal.ChildEntry.{ChildEntry}
+use Rattle.nk_plan.specs.declared.step.ParentStep.{ParentStep}
+use Rattle.nk_plan.specs.declared.step.ParentStep.TheVariants as parent
+use Rattle.nk_plan.specs.declared.step.ChildStep.{ChildStep}
+use Rattle.nk_plan.specs.declared.step.ChildStep.TheVariants as child
+use Rattle.nk_plan.specs.Journal.{mains_taken, backs_taken, ups_taken, mains_sent, backs_sent}
+use Rattle.nk_plan.specs.Parent.{ParentState, parent_step}
+use Rattle.nk_plan.specs.Child.{ChildState, child_step}
+use Rattle.nk_plan.specs.Channel.{Channel, main_lane, back_lane, up_lane}
+use Rattle.nk_drain.specs.Work.{half_lane}
+use Rattle.nk_laws.proofs.Tools.{append_nil}
+use Rattle.nk_laws.proofs.ParentLaw.{ups-append, mains-append, backs-append}
+use Rattle.nk_laws.proofs.Grows as child_side
+use Rattle.nk_laws.proofs.Blocks.{ups_of, mains_of, backs_of, ParentEnters, parent_enters, ChildEnters, child_enters}
+use Rattle.nk_laws.proofs.Joined.{Joined, rest_after}
+use Rattle.nk_world.proofs.Lists.{drop_next, take_next, prefix_length}
+
+-- what a step adds, by what it leaves
+added_is : {A : Type 0} (xs more ys : List A) → ys ≡ xs ++ more → drop (length xs) ys ≡ more
+added_is xs more ys e = rest_after xs more ys (sym e)
+
+-- A STEP OF THE PARENT: what is sent is added to the lane, and what is taken of the up lane is gone from it
+
+pub record ParentLanes (w : Channel) (x : ParentStep) (s : ParentState) : Type 0 where
+  pub main : main_lane w ++ mains_sent (drop (length w.parent.journal) s.journal) ≡ main_lane (record w { parent = s })
+  pub inner : half_lane w ++ backs_sent (drop (length w.parent.journal) s.journal) ≡ half_lane (record w { parent = s })
+  pub back : back_lane w ≡ back_lane (record w { parent = s })
+  pub up : drop (length (ups_of x)) (up_lane w) ≡ up_lane (record w { parent = s })
+
+dropped : {A : Type 0} (n : ℕ) (m xs : List A) → drop (length m) (drop n xs) ≡ drop (n + length m) xs
+dropped n m xs = drop-drop (length m) n xs
+
+pub parent_lanes : (c : ChannelPlan) (w : Channel) (x : ParentStep) → Joined c w → ParentLanes w x (parent_step c x w.parent)
+parent_lanes c w x j =
+    let p : List ParentEntry = w.parent.journal in
+    let s : ParentState = parent_step c x w.parent in
+    let n : ParentEnters x w.parent s = parent_enters c x w.parent in
+    let a : drop (length p) s.journal ≡ n.entries = added_is p n.entries s.journal n.journal_is in
+    let ms : mains_sent s.journal ≡ mains_sent p ++ mains_sent n.entries = ap mains_sent n.journal_is ∙ mains-append p n.entries in
+    let bs : backs_sent s.journal ≡ backs_sent p ++ backs_sent n.entries = ap backs_sent n.journal_is ∙ backs-append p n.entries in
+    let us : ups_taken s.journal ≡ ups_taken p ++ ups_of x = ap ups_taken n.journal_is ∙ (ups-append p n.entries ∙ ap (λ t. ups_taken p ++ t) n.ups) in
+    let l : length (mains_taken w.child.journal) ≤ length (mains_sent p) = prefix_length (mains_taken w.child.journal) j.mains.0 (mains_sent p) j.mains.1 in
+    record {
+      main =
+          ap (λ t. main_lane w ++ mains_sent t) a
+          ∙ (sym (drop-append-le (length (mains_taken w.child.journal)) (mains_sent p) (mains_sent n.entries) l) ∙ ap (λ t. drop (length (mains_taken w.child.journal)) t) (sym ms));
+      inner =
+          ap (λ t. half_lane w ++ backs_sent t) a
+          ∙ (sym (drop-append-le w.forwarded (backs_sent p) (backs_sent n.entries) j.within) ∙ ap (λ t. drop w.forwarded t) (sym bs));
+      back =
+          ap (λ t. drop (length (backs_taken w.child.journal)) t)
+          (sym (take-append-le w.forwarded (backs_sent p) (backs_sent n.entries) j.within) ∙ ap (λ t. take w.forwarded t) (sym bs));
+      up =
+          dropped (length (ups_taken p)) (ups_of x) w.child.sent
+          ∙ ap (λ k. drop k w.child.sent) (sym (length-append (ups_taken p) (ups_of x)) ∙ ap length (sym us));
+    }
+
+-- A STEP OF THE CHILD
+
+pub record ChildLanes (w : Channel) (x : ChildStep) (s : ChildState) : Type 0 where
+  pub main : drop (length (mains_of x w.child.broken)) (main_lane w) ≡ main_lane (record w { child = s })
+  pub back : drop (length (backs_of x w.child.broken)) (back_lane w) ≡ back_lane (record w { child = s })
+  pub up : up_lane w ++ drop (length w.child.sent) s.sent ≡ up_lane (record w { child = s })
+
+pub child_lanes : (c : ChannelPlan) (w : Channel) (x : ChildStep) → Joined c w → ChildLanes w x (child_step c x w.child)
+child_lanes c w x j =
+    let s : ChildState = child_step c x w.child in
+    let n : ChildEnters x w.child.broken w.child s = child_enters c x w.child in
+    let mt : mains_taken s.journal ≡ mains_taken w.child.journal ++ mains_of x w.child.broken =
+    ap mains_taken n.journal_is ∙ (child_side.mains-append w.child.journal n.entries ∙ ap (λ t. mains_taken w.child.journal ++ t) n.mains) in
+    let bt : backs_taken s.journal ≡ backs_taken w.child.journal ++ backs_of x w.child.broken =
+    ap backs_taken n.journal_is ∙ (child_side.backs-append w.child.journal n.entries ∙ ap (λ t. backs_taken w.child.journal ++ t) n.backs) in
+    let l : length (ups_taken w.parent.journal) ≤ length w.child.sent = prefix_length (ups_taken w.parent.journal) j.ups.0 w.child.sent j.ups.1 in
+    record {
+      main =
+          dropped (length (mains_taken w.child.journal)) (mains_of x w.child.broken) (mains_sent w.parent.journal)
+          ∙ ap (λ k. drop k (mains_sent w.parent.journal)) (sym (length-append (mains_taken w.child.journal) (mains_of x w.child.broken)) ∙ ap length (sym mt));
+      back =
+          dropped (length (backs_taken w.child.journal)) (backs_of x w.child.broken) (take w.forwarded (backs_sent w.parent.journal))
+          ∙ ap (λ k. drop k (take w.forwarded (backs_sent w.parent.journal))) (sym (length-append (backs_taken w.child.journal) (backs_of x w.child.broken)) ∙ ap length (sym bt));
+      up =
+          ap (λ t. up_lane w ++ t) (added_is w.child.sent n.messages s.sent n.sent_is)
+          ∙ (sym (drop-append-le (length (ups_taken w.parent.journal)) w.child.sent n.messages l) ∙ ap (λ t. drop (length (ups_taken w.parent.journal)) t) (sym n.sent_is));
+    }
+
+-- A FORWARD
+
+pub record ForwardLanes (w w' : Channel) : Type 0 where
+  pub inner : drop 1 (half_lane w) ≡ half_lane w'
+  pub back : back_lane w ++ take 1 (half_lane w) ≡ back_lane w'
+
+pub forward_lanes : (c : ChannelPlan) (w : Channel) → Joined c w → ForwardLanes w (record w { forwarded = suc w.forwarded })
+forward_lanes c w j =
+    let bs : List BackMsg = backs_sent w.parent.journal in
+    let l : length (backs_taken w.child.journal) ≤ length (take w.forwarded bs) = prefix_length (backs_taken w.child.journal) j.backs.0 (take w.forwarded bs) j.backs.1 in
+    record {
+      inner = sym (drop_next w.forwarded bs);
+      back =
+          sym (drop-append-le (length (backs_taken w.child.journal)) (take w.forwarded bs) (take 1 (drop w.forwarded bs)) l)
+          ∙ ap (λ t. drop (length (backs_taken w.child.journal)) t) (sym (take_next w.forwarded bs));
+    }

@@ -1,0 +1,22 @@
+-- The laws of the drain, over every list of channels at play. This project's own.
+use Rattle.std.specs.Prelude.{ℕ, ◌≡◌, List, map, All}
+use Rattle.nk_plan.specs.declared.plan.ChannelPlan.{ChannelPlan}
+use Rattle.nk_plan.specs.declared.step.Step.{Step}
+use Rattle.nk_plan.specs.Accepted.{Accepted}
+use Rattle.nk_world.specs.Play.{Play, new_play, IsReached}
+use Rattle.nk_world.specs.World.{world_step, AreDrained}
+
+-- the channels of accepted plans are such as steps lead to, and stay so
+abbrev pub NewLaw : Type 0
+NewLaw = (cs : List ChannelPlan) → All Accepted cs → All IsReached (map new_play cs)
+
+abbrev pub StepLaw : Type 0
+StepLaw = (channel : ℕ) (x : Step) (ps : List Play) → All IsReached ps → All IsReached (world_step channel x ps)
+
+-- their drain ends
+abbrev pub EndsLaw : Type 0
+EndsLaw = (ps : List Play) → All IsReached ps → (qs : List Play) × AreDrained ps qs
+
+-- and leaves one thing
+abbrev pub OneLaw : Type 0
+OneLaw = (ps qs rs : List Play) → All IsReached ps → AreDrained ps qs → AreDrained ps rs → qs ≡ rs

@@ -1,0 +1,5 @@
+pub mod End
+pub mod Laws
+pub mod Parts
+pub mod Play
+pub mod World
