@@ -1,5 +1,3 @@
-pub mod PlanTests
-pub mod Loads
-pub mod Plays
+pub mod Channels
 pub mod Tells
 pub mod Listings

@@ -1,5 +1,5 @@
-use Rattle.std.proofs.Common.{◌≡◌, ◌<◌, ◌+◌, ℕ, List, [], ◌∷◌, ◌++◌, length, true, Ok, Err, Some, None, Option, Result, IsErrAnd, IfErr, Vec, Global, ◌∙◌, refl, sym, ap, subst, append_assoc, append-nil, arith, inl, inr}
-use Rattle.std.proofs.lemmas.Bool.{cases_lt}
+use Rattle.std.proofs.Common.{◌≡◌, ◌<◌, ◌+◌, ◌==◌, ℕ, suc, List, [], ◌∷◌, ◌++◌, length, true, Ok, Err, Some, None, Option, Result, IsErrAnd, IfErr, Vec, Global, ◌∙◌, refl, sym, ap, subst, append_assoc, append-nil, arith, inl, inr}
+use Rattle.std.proofs.lemmas.Bool.{cases_lt, eqb-true}
 use Rattle.std.proofs.lemmas.List.{get_or-append-add, get_or_append_left, get_or_past, length-append}
 use Rattle.nk_wire.specs.declared.error.DecodeError.{DecodeError}
 use Rattle.nk_wire.specs.declared.error.DecodeError.TheVariants as error
@@ -13,11 +13,9 @@ use Rattle.nk_wire.specs.Spelling.{SpellsAny, any_rest, frame}
 use Rattle.nk_wire.specs.Streams.{Stream, First, Part, BadLength, Whole, IsFirst, IsNext, AreFrames, AreRead, first, fed, error_at, end_answer, needed}
 use Rattle.nk_run.specs.declared.failure.Failure.{Failure}
 use Rattle.nk_run.specs.declared.failure.Failure.TheVariants as failure
-use Rattle.nk_run.specs.Built.{is_none}
 use Rattle.nk_run.specs.Failures.{failure_of}
 use Rattle.nk_run.specs.Frames.{size_of, sizes, frame_line, frame_lines, AreNoFrames, AreLines, IsWrong, IsBadFrame}
 use Rattle.nk_run.specs.Listing.{AreBytes, Listed, Stops, RefusesFrames}
-use Rattle.nk_run.proofs.PlanTests.{none_is}
 
 -- What is known of the bytes that were fed, call by call.
 
@@ -244,7 +242,6 @@ bad_is_none reads only all e b = λ ns f.
 pub refuses : Reads → FirstOnly → (f : Failure) (all : List ℕ) → Stops f all → RefusesFrames f all
 refuses reads only (failure.Line number c) all h = h
 refuses reads only (failure.Frame e) all h = (h, bad_is_none reads only all e h)
-refuses reads only failure.NotSupported all h = h
 refuses reads only failure.TooLarge all h = h
 refuses reads only failure.Usage all h = h
 refuses reads only failure.Read all h = h
@@ -265,5 +262,9 @@ failed (Err x) e P is h = subst P (sym is) h
 pub split_more : (all fed rest piece left : List ℕ) → all ≡ fed ++ rest → rest ≡ piece ++ left → all ≡ (fed ++ piece) ++ left
 split_more all fed rest piece left is split = is ∙ ap (λ (l : List ℕ). fed ++ l) split ∙ sym (append_assoc fed piece left)
 
-pub all_fed : (all fed rest : List ℕ) → all ≡ fed ++ rest → is_none rest ≡ true → fed ≡ all
-all_fed all fed rest is none = sym (append-nil fed) ∙ ap (λ (l : List ℕ). fed ++ l) (sym (none_is rest none)) ∙ sym is
+nothing_is : {A : Type 0} (xs : List A) → (length xs == 0) ≡ true → xs ≡ []
+nothing_is [] e = refl
+nothing_is (x ∷ xs) e = let zero_long : suc (length xs) ≡ 0 = eqb-true _ _ e in absurd (omega arith)
+
+pub all_fed : (all fed rest : List ℕ) → all ≡ fed ++ rest → (length rest == 0) ≡ true → fed ≡ all
+all_fed all fed rest is none = sym (append-nil fed) ∙ ap (λ (l : List ℕ). fed ++ l) (sym (nothing_is rest none)) ∙ sym is

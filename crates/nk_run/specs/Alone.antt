@@ -1,71 +1,44 @@
 -- What the program answers and prints, from the bytes of its input to those of its output.
 -- A source tells what it has left, and a sink what it got, or neither says anything of the bytes.
-use Rattle.std.specs.Prelude.{ℕ, ◌≡◌, ◌≤◌, ◌⊎◌, true, false, if◌then◌else◌, ◌==◌, List, [], ◌∷◌, length, map, Option, None, Some, IfSome, IsSomeAnd, codes}
-use Rattle.std.specs.List.{AllByRecursion}
+use Rattle.std.specs.Prelude.{ℕ, ◌≡◌, ◌≤◌, ◌⊎◌, Bool, if◌then◌else◌, ◌==◌, List, [], length, Option, Some, IfSome, IsSomeAnd, codes}
 use Rattle.nk_io.specs.Faults.{Rose}
 use Rattle.nk_io.specs.Got.{Gains, GainsPart}
-use Rattle.nk_base.specs.declared.message.Entry.{Entry}
-use Rattle.nk_plan.specs.declared.plan.ChannelPlan.{ChannelPlan}
-use Rattle.nk_plan.specs.declared.ends.ChannelEnd.{ChannelEnd}
-use Rattle.nk_plan.specs.declared.ends.Ending.TheVariants as ending
-use Rattle.nk_plan.specs.Trace.{SeqTrace}
-use Rattle.nk_plan.specs.Calm.{calm_trace}
 use Rattle.nk_script.specs.declared.script.Script.{Script}
 use Rattle.nk_script.specs.declared.script.Cause.{Cause}
 use Rattle.nk_script.specs.Grammar.{IsTextOf, IsFirstBadLine}
-use Rattle.nk_trace.specs.Report.{text}
-use Rattle.nk_run.specs.Built.{is_supported}
+use Rattle.nk_words.specs.declared.command.Command.{Command}
+use Rattle.nk_words.specs.declared.command.Command.TheVariants.{Play, Divert, Threads, Frames, Gen, Check}
+use Rattle.nk_words.specs.Words.{IsCallOf}
+use Rattle.nk_run.specs.Ends.{IsReport}
 use Rattle.nk_run.specs.Failures.{line}
 
--- the words of the commands that are built
-abbrev pub IsPlay : List (List ℕ) → Type 0
-IsPlay words = words ≡ codes "play" ∷ []
+-- Words.
 
-abbrev pub IsFrames : List (List ℕ) → Type 0
-IsFrames words = words ≡ codes "frames" ∷ []
+-- the command is built, and needs no thread
+abbrev pub IsBuilt : Command → Type 0
+IsBuilt (Play log) = Unit {0}
+IsBuilt (Divert pieces) = ⊥
+IsBuilt (Threads workers shared log) = ⊥
+IsBuilt Frames = Unit {0}
+IsBuilt (Gen seed) = Unit {0}
+IsBuilt Check = ⊥
 
 abbrev pub HasMeaning : List (List ℕ) → Type 0
-HasMeaning words = IsPlay words ⊎ IsFrames words
+HasMeaning words = (command : Command) × IsBuilt command × IsCallOf command words
+
+-- The input.
 
 -- the most bytes of an input
 abbrev pub most_input : ℕ
 most_input = 16777216
 
--- the end of a channel whose load has stopped, and whose listener saw this trace
-abbrev pub stopped_end : List Entry → ChannelEnd
-stopped_end trace = record { trace = trace; readers = []; ending = ending.Stopped; parent = []; child = []; forwarded = 0 }
+-- the input tells that it is not too large, and P of its bytes
+abbrev pub IsInput : Option (List ℕ) → (List ℕ → Type 0) → Type 0
+IsInput left P = IsSomeAnd left (λ all. (length all ≤ most_input) × P all)
 
--- the end of the channel of a built plan: its listener saw the calm trace
-abbrev pub end_of : ChannelPlan → ChannelEnd
-end_of plan = stopped_end (calm_trace plan)
-
--- the report of such channels
-abbrev pub report_of : Script → List ℕ
-report_of script = text (map end_of script.plans) false
-
--- the calm trace of the plan is a trace of one sequential channel
-abbrev pub IsSequential : ChannelPlan → Type 0
-IsSequential plan = SeqTrace plan 0 None false (calm_trace plan)
-
--- the text is a text of this script, which is supported; each of its channels shows the trace of one sequential channel
-pub record IsPlayed (script_text : List ℕ) (script : Script) : Type 0 where
-  pub read : IsTextOf script script_text
-  pub supported : is_supported script ≡ true
-  pub sequential : AllByRecursion IsSequential script.plans
-
--- all of the input was read, and the report of its channels was written
-abbrev pub Plays : Option (List ℕ) → Option (List ℕ) → Option (List ℕ) → Option (List ℕ) → Type 0
-Plays left left' got got' =
-    IfSome left (λ all. (left' ≡ Some []) × ((script : Script) × IsPlayed all script × Gains got got' (report_of script)))
-
--- the same, but a prefix of the report was written
-abbrev pub PlaysPart : Option (List ℕ) → Option (List ℕ) → Option (List ℕ) → Option (List ℕ) → Type 0
-PlaysPart left left' got got' =
-    IfSome left (λ all. (left' ≡ Some []) × ((script : Script) × IsPlayed all script × GainsPart got got' (report_of script)))
-
--- the text is a text of the grammar, but not of a script that is supported
-abbrev pub IsUnsupported : List ℕ → Type 0
-IsUnsupported all = (script : Script) × IsTextOf script all × (is_supported script ≡ false)
+-- the text is one of the grammar
+abbrev pub IsScript : List ℕ → Type 0
+IsScript all = (script : Script) × IsTextOf script all
 
 -- the text is none of the grammar
 abbrev pub IsNoScript : List ℕ → Type 0
@@ -76,18 +49,25 @@ abbrev pub IsBadAt : ℕ → Cause → Option (List ℕ) → Option (List ℕ) �
 IsBadAt number cause left left' =
     IfSome left (λ all. (left' ≡ Some []) × (length all ≤ most_input) × IsFirstBadLine all number cause × IsNoScript all)
 
--- all of the input was read, and it is a script that is not supported
-abbrev pub IsRefused : Option (List ℕ) → Option (List ℕ) → Type 0
-IsRefused left left' = IfSome left (λ all. (left' ≡ Some []) × (length all ≤ most_input) × IsUnsupported all)
+-- The output.
+
+-- all of the input was read, it is a script, and the report of its channels was written
+abbrev pub Plays : Bool → Option (List ℕ) → Option (List ℕ) → Option (List ℕ) → Option (List ℕ) → Type 0
+Plays log left left' got got' =
+    IfSome left (λ all. (left' ≡ Some []) × ((report : List ℕ) × IsReport log all report × Gains got got' report))
+
+-- the same, but a prefix of the report was written
+abbrev pub PlaysPart : Bool → Option (List ℕ) → Option (List ℕ) → Option (List ℕ) → Option (List ℕ) → Type 0
+PlaysPart log left left' got got' =
+    IfSome left (λ all. (left' ≡ Some []) × ((report : List ℕ) × IsReport log all report × GainsPart got got' report))
+
+-- What is told.
 
 -- the text was written; or there was a fault, and a prefix of it was written
 abbrev pub Told : Option (List ℕ) → Option (List ℕ) → ℕ → ℕ → List ℕ → Type 0
 Told got got' faults faults' words = Gains got got' words ⊎ (Rose faults faults' × GainsPart got got' words)
 
 -- a text of status 1 beside those of bad lines
-abbrev pub not_supported : List ℕ
-not_supported = line (codes "error: not supported")
-
 abbrev pub too_large : List ℕ
 too_large = line (codes "error: input too large")
 
@@ -98,11 +78,3 @@ told_of status =
     else (if status == 3 then line (codes "error: read")
     else (if status == 4 then line (codes "error: write")
     else (if status == 5 then line (codes "error: memory") else [])))
-
--- the input tells that it is not too large, and P of its bytes
-abbrev pub IsInput : Option (List ℕ) → (List ℕ → Type 0) → Type 0
-IsInput left P = IsSomeAnd left (λ all. (length all ≤ most_input) × P all)
-
--- the text is a script that is supported
-abbrev pub IsSupported : List ℕ → Type 0
-IsSupported all = (script : Script) × IsTextOf script all × (is_supported script ≡ true)

@@ -27,7 +27,6 @@ bad_line number c = line (codes "error: line " ++ decimal number ++ codes ": " +
 abbrev pub status_of : Failure → ℕ
 status_of (failure.Line number c) = 1
 status_of (failure.Frame e) = 7
-status_of failure.NotSupported = 1
 status_of failure.TooLarge = 1
 status_of failure.Usage = 2
 status_of failure.Read = 3
@@ -37,7 +36,6 @@ status_of failure.Memory = 5
 abbrev pub line_of : Failure → List ℕ
 line_of (failure.Line number c) = bad_line number c
 line_of (failure.Frame e) = bad_frame e
-line_of failure.NotSupported = line (codes "error: not supported")
 line_of failure.TooLarge = line (codes "error: input too large")
 line_of failure.Usage = line (codes "usage: necklane play [log] | divert K | threads N [shared] [log] | frames | gen N | check")
 line_of failure.Read = line (codes "error: read")
@@ -48,7 +46,6 @@ line_of failure.Memory = line (codes "error: memory")
 abbrev pub IsFixed : Failure → Type 0
 IsFixed (failure.Line number c) = ⊥
 IsFixed (failure.Frame e) = ⊥
-IsFixed failure.NotSupported = Unit {0}
 IsFixed failure.TooLarge = Unit {0}
 IsFixed failure.Usage = Unit {0}
 IsFixed failure.Read = Unit {0}
@@ -63,7 +60,6 @@ TellsText expected text status Tells = ((status ≡ expected) × Tells text) ⊎
 abbrev pub TellsAny : Failure → ℕ → (List ℕ → Type 0) → Type 0
 TellsAny (failure.Line number c) status Tells = TellsText 1 (bad_line number c) status Tells
 TellsAny (failure.Frame e) status Tells = TellsText 7 (bad_frame e) status Tells
-TellsAny failure.NotSupported status Tells = (status ≡ 1) × Tells (line_of failure.NotSupported)
 TellsAny failure.TooLarge status Tells = (status ≡ 1) × Tells (line_of failure.TooLarge)
 TellsAny failure.Usage status Tells = (status ≡ 2) × Tells (line_of failure.Usage)
 TellsAny failure.Read status Tells = (status ≡ 3) × Tells (line_of failure.Read)

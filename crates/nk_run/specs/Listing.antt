@@ -29,7 +29,6 @@ pub record Listed (fed : List ℕ) (s : Stream) (text : List ℕ) : Type 0 where
 abbrev pub Stops : Failure → List ℕ → Type 0
 Stops (failure.Line number c) all = ⊥
 Stops (failure.Frame e) all = IsBadFrame all e
-Stops failure.NotSupported all = ⊥
 Stops failure.TooLarge all = ⊥
 Stops failure.Usage all = ⊥
 Stops failure.Read all = ⊥
@@ -40,7 +39,6 @@ Stops failure.Memory all = Unit {0}
 abbrev pub RefusesFrames : Failure → List ℕ → Type 0
 RefusesFrames (failure.Line number c) all = ⊥
 RefusesFrames (failure.Frame e) all = IsBadFrame all e × AreNoFrames all
-RefusesFrames failure.NotSupported all = ⊥
 RefusesFrames failure.TooLarge all = ⊥
 RefusesFrames failure.Usage all = ⊥
 RefusesFrames failure.Read all = ⊥
@@ -58,7 +56,6 @@ IsBadInput e left left' =
 abbrev pub FramesFail : Failure → Option (List ℕ) → Option (List ℕ) → ℕ → ℕ → Type 0
 FramesFail (failure.Line number c) left left' faults faults' = ⊥
 FramesFail (failure.Frame e) left left' faults faults' = IsBadInput e left left'
-FramesFail failure.NotSupported left left' faults faults' = ⊥
 FramesFail failure.TooLarge left left' faults faults' = GivesCount left left' (most_input + 1)
 FramesFail failure.Usage left left' faults faults' = ⊥
 FramesFail failure.Read left left' faults faults' = Rose faults faults'
@@ -70,7 +67,6 @@ abbrev pub IsFrameOrMemory : {T : Type 0} → Result T Failure → Type 0
 IsFrameOrMemory (Ok x) = ⊥
 IsFrameOrMemory (Err (failure.Line number c)) = ⊥
 IsFrameOrMemory (Err (failure.Frame e)) = Unit {0}
-IsFrameOrMemory (Err failure.NotSupported) = ⊥
 IsFrameOrMemory (Err failure.TooLarge) = ⊥
 IsFrameOrMemory (Err failure.Usage) = ⊥
 IsFrameOrMemory (Err failure.Read) = ⊥

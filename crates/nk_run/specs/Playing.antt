@@ -1,12 +1,11 @@
 -- What the steps of a play leave, before its report is written.
-use Rattle.std.specs.Prelude.{ℕ, ◌≡◌, ◌≤◌, ◌+◌, ◌⊎◌, true, false, List, [], Option, Some, IfSome, Result, Ok, Err}
+use Rattle.std.specs.Prelude.{ℕ, ◌≡◌, ◌≤◌, ◌+◌, ◌⊎◌, Bool, List, [], Option, Some, IfSome, Result, Ok, Err}
 use Rattle.nk_io.specs.Faults.{Rose, Quiet}
 use Rattle.nk_io.specs.Given.{GivesCount, Exceeds}
-use Rattle.nk_script.specs.declared.script.Script.{Script}
 use Rattle.nk_script.specs.declared.script.Cause.{Cause}
-use Rattle.nk_script.specs.Grammar.{IsFirstBadLine}
-use Rattle.nk_run.specs.Alone.{Plays, PlaysPart, most_input, not_supported, too_large, IsInput, IsSupported, IsBadAt, IsRefused, IsUnsupported, IsNoScript}
-use Rattle.nk_run.specs.Built.{is_supported}
+use Rattle.nk_script.specs.declared.script.Script.{Script}
+use Rattle.nk_script.specs.Grammar.{IsTextOf, IsFirstBadLine}
+use Rattle.nk_run.specs.Alone.{Plays, PlaysPart, most_input, too_large, IsInput, IsBadAt, IsScript, IsNoScript}
 use Rattle.nk_run.specs.Failures.{bad_line}
 use Rattle.nk_run.specs.declared.failure.Failure.{Failure}
 use Rattle.nk_run.specs.declared.failure.Failure.TheVariants as failure
@@ -15,34 +14,24 @@ use Rattle.nk_run.specs.declared.failure.Failure.TheVariants as failure
 abbrev pub IsReadWhole : Option (List ℕ) → Option (List ℕ) → List ℕ → Type 0
 IsReadWhole left left' bytes = IfSome left (λ all. (bytes ≡ all) × (left' ≡ Some []))
 
--- why a text is not played
+-- why a text is no script
 abbrev pub Refuses : Failure → List ℕ → Type 0
 Refuses (failure.Line number c) all = IsFirstBadLine all number c × IsNoScript all
 Refuses (failure.Frame e) all = ⊥
-Refuses failure.NotSupported all = IsUnsupported all
 Refuses failure.TooLarge all = ⊥
 Refuses failure.Usage all = ⊥
 Refuses failure.Read all = ⊥
 Refuses failure.Write all = ⊥
 Refuses failure.Memory all = Unit {0}
 
--- what is answered of this script, unless memory is wanting
-abbrev pub AnswersScript : {T : Type 0} → Result T Failure → Script → Type 0
-AnswersScript (Ok x) script = is_supported script ≡ true
-AnswersScript (Err (failure.Line number c)) script = ⊥
-AnswersScript (Err (failure.Frame e)) script = ⊥
-AnswersScript (Err failure.NotSupported) script = is_supported script ≡ false
-AnswersScript (Err failure.TooLarge) script = ⊥
-AnswersScript (Err failure.Usage) script = ⊥
-AnswersScript (Err failure.Read) script = ⊥
-AnswersScript (Err failure.Write) script = ⊥
-AnswersScript (Err failure.Memory) script = Unit {0}
+-- all of the input was read, and it is this script
+abbrev pub Gives : Script → Option (List ℕ) → Option (List ℕ) → Type 0
+Gives script left left' = IfSome left (λ all. (left' ≡ Some []) × IsTextOf script all)
 
 -- what the input gave before a failure
 abbrev pub Fails : Failure → Option (List ℕ) → Option (List ℕ) → ℕ → ℕ → Type 0
 Fails (failure.Line number c) left left' faults faults' = IsBadAt number c left left'
 Fails (failure.Frame e) left left' faults faults' = ⊥
-Fails failure.NotSupported left left' faults faults' = IsRefused left left'
 Fails failure.TooLarge left left' faults faults' = GivesCount left left' (most_input + 1)
 Fails failure.Usage left left' faults faults' = ⊥
 Fails failure.Read left left' faults faults' = Rose faults faults'
@@ -58,32 +47,29 @@ abbrev pub IsLineOrMemory : {T : Type 0} → Result T Failure → Type 0
 IsLineOrMemory (Ok x) = ⊥
 IsLineOrMemory (Err (failure.Line number c)) = Unit {0}
 IsLineOrMemory (Err (failure.Frame e)) = ⊥
-IsLineOrMemory (Err failure.NotSupported) = ⊥
 IsLineOrMemory (Err failure.TooLarge) = ⊥
 IsLineOrMemory (Err failure.Usage) = ⊥
 IsLineOrMemory (Err failure.Read) = ⊥
 IsLineOrMemory (Err failure.Write) = ⊥
 IsLineOrMemory (Err failure.Memory) = Unit {0}
 
--- a line that cannot stand was told, or that the script is not supported, or that one byte too many was given
+-- a line that cannot stand was told, or that one byte too many was given
 abbrev pub TellsRefusal : Option (List ℕ) → Option (List ℕ) → (List ℕ → Type 0) → Type 0
 TellsRefusal left left' Tells =
     ((number : ℕ) × ((c : Cause) × IsBadAt number c left left' × Tells (bad_line number c)))
-    ⊎ ((IsRefused left left' × Tells not_supported) ⊎ (GivesCount left left' (most_input + 1) × Tells too_large))
+    ⊎ (GivesCount left left' (most_input + 1) × Tells too_large)
 
--- What `play` answers: this status, by what the input has left and how often it failed, what the output got and how
--- often it failed, and what is told of a failure.
-pub record PlayRun (status : ℕ) (left left' : Option (List ℕ)) (in_faults in_faults' : ℕ) (got got' : Option (List ℕ)) (out_faults out_faults' : ℕ)
+-- What `play` answers, and `play log`: this status, by what the input has left and how often it failed, what the output got
+-- and how often it failed, and what is told of a failure.
+pub record PlayRun (log : Bool) (status : ℕ) (left left' : Option (List ℕ)) (in_faults in_faults' : ℕ) (got got' : Option (List ℕ)) (out_faults out_faults' : ℕ)
     (Tells : List ℕ → Type 0) : Type 0 where
   -- 0: all of the input is a script, and its report was written. 4: a prefix of that report was written
-  pub played : status ≡ 0 → Plays left left' got got'
-  pub cut : status ≡ 4 → PlaysPart left left' got got'
-  -- 1: all of the input is no script, and this is its first bad line; or a script that is not supported; or one byte
-  -- too many was given
+  pub played : status ≡ 0 → Plays log left left' got got'
+  pub cut : status ≡ 4 → PlaysPart log left left' got got'
+  -- 1: all of the input is no script, and this is its first bad line; or one byte too many was given
   pub refused : status ≡ 1 → TellsRefusal left left' Tells
   pub others : status ≤ 5
-  -- without a fault, want of memory alone keeps a supported script from its report, and any other input from its refusal
-  pub supported : IsInput left IsSupported → Quiet in_faults in_faults' → Quiet out_faults out_faults' → (status ≡ 0) ⊎ (status ≡ 5)
-  pub unsupported : IsInput left IsUnsupported → Quiet in_faults in_faults' → (status ≡ 1) ⊎ (status ≡ 5)
+  -- without a fault, want of memory alone keeps a script from its report, and any other input from its refusal
+  pub whole : IsInput left IsScript → Quiet in_faults in_faults' → Quiet out_faults out_faults' → (status ≡ 0) ⊎ (status ≡ 5)
   pub none : IsInput left IsNoScript → Quiet in_faults in_faults' → (status ≡ 1) ⊎ (status ≡ 5)
   pub overlong : Exceeds most_input left → Quiet in_faults in_faults' → (status ≡ 1) ⊎ (status ≡ 5)

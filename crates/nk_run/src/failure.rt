@@ -21,8 +21,6 @@ pub(crate) enum Failure {
     Line { number: u32, cause: Cause },
     /// The bytes are no sequence of frames: this frame is the first that is wrong.
     Frame(FrameError),
-    /// The script is not supported yet.
-    NotSupported,
     /// The input has more than 16,777,216 bytes.
     TooLarge,
     /// The words have no meaning.
@@ -89,7 +87,6 @@ impl Failure {
         match self {
             Failure::Line { .. } => 1,
             Failure::Frame(_) => 7,
-            Failure::NotSupported => 1,
             Failure::TooLarge => 1,
             Failure::Usage => 2,
             Failure::Read => 3,
@@ -106,7 +103,6 @@ impl Failure {
         match self {
             Failure::Line { .. } => unreachable!(),
             Failure::Frame(_) => unreachable!(),
-            Failure::NotSupported => b"error: not supported\n",
             Failure::TooLarge => b"error: input too large\n",
             Failure::Usage =>
                 b"usage: necklane play [log] | divert K | threads N [shared] [log] | frames | gen N | check\n",
@@ -133,7 +129,6 @@ impl Failure {
         match self {
             Failure::Line { number, cause } => tell_line(1, bad_line(alloc, number, cause), err),
             Failure::Frame(error) => tell_line(7, bad_frame(alloc, error), err),
-            Failure::NotSupported => Failure::NotSupported.tell(err),
             Failure::TooLarge => Failure::TooLarge.tell(err),
             Failure::Usage => Failure::Usage.tell(err),
             Failure::Read => Failure::Read.tell(err),

@@ -1,18 +1,24 @@
 //! The program of necklane, from its words and the bytes of its input to the bytes that it prints.
 //!
-//! So far it reads every script and plays those whose loads are one response each (`built`), and it lists every sequence
-//! of frames (`frames`). The parts of a load are small and private; each answers exactly what its clause says.
+//! `play` reads a script, moves its channels by the schedule and the drain, and prints the report of their ends; `gen` does
+//! so with a script that it makes, and prints the summary. `frames` lists a sequence of frames.
 #![tactic(auto)]
 
 mod bad_frame;
-mod built;
+mod ends;
 mod failure;
 mod frames;
 #[cfg(test)]
 mod frames_tests;
 mod input;
-mod load;
+#[cfg(test)]
+mod log_tests;
+mod made;
+#[cfg(test)]
+mod made_tests;
 mod play;
+#[cfg(test)]
+mod play_tests;
 mod run;
 #[cfg(test)]
 mod tests;

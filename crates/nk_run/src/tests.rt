@@ -2,22 +2,33 @@
 //! source or its sink fails on the way.
 use crate::run_alone;
 use nk_io::{MemSink, MemSource, SureSink, SureSource};
+use std::alloc::Global;
 use std::process::Abort;
 use std::test::Fail;
 
-/// Runs `play` on a text and compares status, output and messages.
-fn plays(
+/// These texts, one behind the other.
+pub(crate) fn joined(alloc: Global, texts: &[&[u8]]) -> Result<Vec<u8>, Fail> {
+    let mut all = Vec::new(alloc);
+    for text in texts {
+        all.extend_from_slice(text)?;
+    }
+    Ok(all)
+}
+
+/// Runs the program with these words on an input and compares status, output and messages.
+pub(crate) fn answers(
     rt: &(impl Abort + AllocGlobal),
-    text: &[u8],
+    words: &[&str],
+    input: &[u8],
     status: u8,
     printed: &[u8],
     told: &[u8],
 ) -> Result<(), Fail> {
     let alloc = rt.alloc();
-    let mut input = SureSource::new(text.to_vec(alloc)?);
+    let mut input = SureSource::new(input.to_vec(alloc)?);
     let mut out = SureSink::new(alloc);
     let mut err = SureSink::new(alloc);
-    let answer = run_alone(alloc, &["play"], &mut input, &mut out, &mut err);
+    let answer = run_alone(alloc, words, &mut input, &mut out, &mut err);
     assert_eq!(rt; answer, status);
     assert_eq!(rt; out.bytes(), printed);
     assert_eq!(rt; err.bytes(), told);
@@ -25,20 +36,10 @@ fn plays(
 }
 
 #[test]
-fn one_response_is_played(rt: HostRuntime) -> Result<(), Fail> {
-    plays(
+fn channels_are_printed_in_order(rt: HostRuntime) -> Result<(), Fail> {
+    answers(
         &rt,
-        b"script 1\nchannel\nhop response 200\npiece hello\nend ok\n",
-        0,
-        b"channel 1\nstart 200 00000000\ndata 0 68656c6c6f\nstop 00000000\nend stopped\n",
-        b"",
-    )
-}
-
-#[test]
-fn two_channels_are_printed_in_order(rt: HostRuntime) -> Result<(), Fail> {
-    plays(
-        &rt,
+        &["play"],
         b"script 1\nchannel\nhop response 200\npiece hello\nend ok\nchannel\nhop response 204\nend ok",
         0,
         b"channel 1\nstart 200 00000000\ndata 0 68656c6c6f\nstop 00000000\nend stopped\nchannel 2\nstart 204 00000000\nstop 00000000\nend stopped\n",
@@ -46,72 +47,76 @@ fn two_channels_are_printed_in_order(rt: HostRuntime) -> Result<(), Fail> {
     )
 }
 
-#[test]
-fn a_second_piece_stands_behind_the_first(rt: HostRuntime) -> Result<(), Fail> {
-    plays(
-        &rt,
-        b"script 1\nchannel\nhop response 999\nfield server example\npiece piece \nhex 00ff\nfill 2e 2\nend ok\nretargetable no\n",
-        0,
-        b"channel 1\nstart 999 00000000\ndata 0 706965636520\ndata 6 00ff\ndata 8 2e2e\nstop 00000000\nend stopped\n",
-        b"",
-    )
-}
-
-#[test]
-fn scripts_of_other_loads_are_not_supported(rt: HostRuntime) -> Result<(), Fail> {
-    let texts: [&[u8]; 4] = [
-        b"script 1\nchannel\nhop fail 804b000d\n",
-        b"script 1\nchannel\nhop response 200\nend ok\nwindow 5\n",
-        b"script 1\nchannel\nhop response 200\nend ok\ntrailer x-sum 17\n",
-        b"script 1\nchannel\nhop response 200\nend ok\nschedule\n1 act\n",
-    ];
-    for text in texts {
-        plays(&rt, text, 1, b"", b"error: not supported\n")?;
-    }
-    Ok(())
+/// A text that is no script, and what is told of it.
+fn refuses(rt: &(impl Abort + AllocGlobal), lines: &[&[u8]], told: &[u8]) -> Result<(), Fail> {
+    answers(rt, &["play"], &joined(rt.alloc(), lines)?, 1, b"", told)
 }
 
 #[test]
 fn the_first_bad_line_of_a_text_is_named(rt: HostRuntime) -> Result<(), Fail> {
-    let texts: [(&[u8], &[u8]); 5] = [
-        (b"", b"error: line 1: ends early\n"),
+    let tables: [(&[u8], &[u8]); 7] = [
+        (b"hop response 200\npiece\n", b"error: line 4: malformed\n"),
+        (b"hop response 99\n", b"error: line 3: malformed\n"),
+        (b"hop redirect 302 allow\n", b"error: line 4: ends early\n"),
         (
-            b"script 1\nchannel\nhop response 200\npiece\nend ok\n",
-            b"error: line 4: malformed\n",
+            b"hop fail 804b000d\nschedule\n2 act\n",
+            b"error: line 5: malformed\n",
+        ),
+        (b"hop fail 00000000\n", b"error: line 3: malformed\n"),
+        (
+            b"hop fail 804b000d\nhop fail 804b000d\n",
+            b"error: line 4: unexpected\n",
         ),
         (
-            b"script 1\nchannel\nhop response 099\nend ok\n",
-            b"error: line 3: malformed\n",
-        ),
-        (
-            b"script 1\nchannel\nhop response 200\nend ok\nend ok\n",
-            b"error: line 5: unexpected\n",
-        ),
-        (
-            b"script 1\nchannel\nhop response 200\npiece hello\n",
+            b"hop response 200\npiece hello\n",
             b"error: line 5: ends early\n",
         ),
     ];
-    for (text, told) in texts {
-        plays(&rt, text, 1, b"", told)?;
+    for (lines, told) in tables {
+        refuses(&rt, &[b"script 1\nchannel\n", lines], told)?;
     }
-    Ok(())
+    refuses(&rt, &[], b"error: line 1: ends early\n")
+}
+
+#[test]
+fn a_redirect_as_32nd_hop_is_one_too_many(rt: HostRuntime) -> Result<(), Fail> {
+    let mut text = b"script 1\nchannel\n".to_vec(rt.alloc())?;
+    for _ in 0..32 {
+        text.extend_from_slice(b"hop redirect 302 allow\n")?;
+    }
+    refuses(&rt, &[text.as_slice()], b"error: line 34: limit\n")
+}
+
+#[test]
+fn a_body_of_more_than_64_mib_is_too_large(rt: HostRuntime) -> Result<(), Fail> {
+    let mut text = b"script 1\nchannel\nhop response 200\n".to_vec(rt.alloc())?;
+    for _ in 0..513 {
+        text.extend_from_slice(b"fill 00 131072\n")?;
+    }
+    refuses(&rt, &[text.as_slice()], b"error: line 516: limit\n")
 }
 
 #[test]
 fn words_without_a_meaning_get_the_usage_line(rt: HostRuntime) -> Result<(), Fail> {
-    let alloc = rt.alloc();
-    let lists: [&[&str]; 4] = [&[], &["play", "now"], &["play", "log"], &["threads", "0"]];
+    let lists: [&[&str]; 8] = [
+        &[],
+        &["play", "now"],
+        &["play", "log", "now"],
+        &["threads", "0"],
+        &["threads", "17"],
+        &["gen"],
+        &["gen", "07"],
+        &["gen", "4294967296"],
+    ];
     for words in lists {
-        let mut input = SureSource::new(Vec::new(alloc));
-        let mut out = SureSink::new(alloc);
-        let mut err = SureSink::new(alloc);
-        assert_eq!(rt; run_alone(alloc, words, &mut input, &mut out, &mut err), 2);
-        assert!(rt;
-            err.bytes()
-                .starts_with(b"usage: necklane play [log] | divert K")
-        );
-        assert!(rt; out.bytes().is_empty());
+        answers(
+            &rt,
+            words,
+            b"",
+            2,
+            b"",
+            b"usage: necklane play [log] | divert K | threads N [shared] [log] | frames | gen N | check\n",
+        )?;
     }
     Ok(())
 }

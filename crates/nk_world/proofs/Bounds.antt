@@ -1,6 +1,6 @@
 -- What a channel holds stays little: its lanes by the drain's law, what its parent sent by the lane law, and its trace since
 -- it is that of a sequential channel.
-use Rattle.std.proofs.Common.{ℕ, suc, ◌≡◌, ◌+◌, ◌<◌, ◌≤◌, ◌^◌, ◌⊎◌, inl, inr, refl, sym, ◌∙◌, ap, subst, Bool, drop, List, [], ◌∷◌, ◌++◌, length, take, Option, Some, None, arith, length-append}
+use Rattle.std.proofs.Common.{ℕ, suc, ◌≡◌, ◌+◌, ◌<◌, ◌≤◌, ◌^◌, inl, inr, refl, sym, ◌∙◌, ap, subst, Bool, List, [], ◌∷◌, ◌++◌, length, take, Option, Some, None, arith, length-append}
 use Rattle.std.proofs.lemmas.List.{length-take}
 use Rattle.nk_base.specs.declared.status.Status.{Status}
 use Rattle.nk_base.specs.declared.field.Head.{Head}
@@ -13,21 +13,20 @@ use Rattle.nk_plan.specs.declared.plan.ChannelPlan.{ChannelPlan}
 use Rattle.nk_plan.specs.declared.plan.StartLane.{StartLane}
 use Rattle.nk_plan.specs.declared.plan.StartLane.TheVariants as start
 use Rattle.nk_plan.specs.declared.step.Step.{Step}
-use Rattle.nk_plan.specs.Accepted.{Accepted, body_of}
+use Rattle.nk_plan.specs.Accepted.{Accepted}
 use Rattle.nk_plan.specs.Plan.{pieces_at}
 use Rattle.nk_plan.specs.Trace.{Follows, SeqTrace}
 use Rattle.nk_plan.specs.Lanes.{back_start, piece_messages, stop_message, LaneLaw, Started}
 use Rattle.nk_plan.specs.Journal.{first, final, cut, ups_taken, mains_sent, backs_sent}
 use Rattle.nk_plan.specs.Parent.{ParentState}
-use Rattle.nk_plan.specs.Channel.{Channel, main_lane, back_lane, up_lane, channel_step, channel_after}
-use Rattle.nk_plan.specs.Run.{Run, trace_of}
+use Rattle.nk_plan.specs.Channel.{Channel, main_lane, back_lane, up_lane, channel_step}
+use Rattle.nk_plan.specs.Run.{trace_of}
 use Rattle.nk_laws.specs.Laws.{LanesLaw, OrderRunsLaw, RunLaw, StateLaw}
 use Rattle.nk_laws.proofs.Joined.{Joined}
 use Rattle.nk_drain.specs.Work.{half_lane}
 use Rattle.nk_drain.specs.Laws.{RoomLaw}
 use Rattle.nk_drain.proofs.Hops.{few_pieces}
 use Rattle.nk_world.specs.Play.{Play, play_step, shown_since, IsReached}
-use Rattle.nk_sink.specs.Listener.{Listener}
 use Rattle.nk_world.specs.declared.playing.Playing.{Playing}
 use Rattle.nk_world.specs.Parts.{play_of, parts_of, IsSound, HasRoom}
 use Rattle.nk_world.proofs.Lists.{prefix_length}

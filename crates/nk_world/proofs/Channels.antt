@@ -1,5 +1,5 @@
 -- What holds of each channel of a world.
-use Rattle.std.proofs.Common.{ℕ, zero, suc, ◌≡◌, ◌+◌, ◌<◌, ◌≤◌, refl, sym, ◌∙◌, ap, subst, List, [], ◌∷◌, ◌++◌, length, map, take, drop, slice_get, slice_set, get_or, ◌-◌, Bool, false, Option, Some, None, Result, Ok, Err, IfOk, arith}
+use Rattle.std.proofs.Common.{ℕ, suc, ◌≡◌, ◌+◌, ◌<◌, ◌≤◌, refl, sym, ◌∙◌, ap, subst, List, [], ◌∷◌, ◌++◌, length, map, take, drop, slice_get, slice_set, get_or, ◌-◌, Bool, false, Option, Some, Result, Ok, Err, IfOk, arith}
 use Rattle.std.specs.List.{All, AllZip}
 use Rattle.std.specs.Option.{option_map}
 use Rattle.std.proofs.lemmas.List.{map-set, take_more, drop-set-lt, take-append-le, take_all, length-map, length-drop}

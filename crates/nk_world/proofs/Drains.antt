@@ -6,7 +6,7 @@ use Rattle.nk_plan.specs.declared.step.Step.{Step}
 use Rattle.nk_child.specs.Moved.{moved_if}
 use Rattle.nk_laws.proofs.Tools.{by_bool}
 use Rattle.nk_world.specs.declared.playing.Playing.{Playing}
-use Rattle.nk_world.specs.Play.{Play, play_step, play_enabled, tried, are_idle, round_steps, round, rounds, IsReached, IsQuiet, IsDrained, either}
+use Rattle.nk_world.specs.Play.{Play, play_step, play_enabled, tried, are_idle, round_steps, round, rounds, IsReached, IsQuiet, either}
 use Rattle.nk_world.specs.Parts.{play_of, IsSound, DrainsTo}
 use Rattle.nk_world.proofs.Idle.{IdleLaws, idle_all, idle_round}
 use Rattle.nk_world.proofs.Falls.{FallLaws}

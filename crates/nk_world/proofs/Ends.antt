@@ -1,5 +1,5 @@
 -- What is promised of the end of a channel, put together from the laws.
-use Rattle.std.proofs.Common.{ℕ, ◌≡◌, refl, sym, ◌∙◌, ap, subst, Bool, true, false, if◌then◌else◌, List, [], replicate}
+use Rattle.std.proofs.Common.{◌≡◌, refl, sym, ◌∙◌, ap, subst, Bool, true, false, if◌then◌else◌, List, [], replicate}
 use Rattle.nk_base.specs.declared.message.Entry.{Entry}
 use Rattle.nk_plan.specs.declared.plan.ChannelPlan.{ChannelPlan}
 use Rattle.nk_plan.specs.declared.ends.Ending.{Ending}
@@ -7,13 +7,12 @@ use Rattle.nk_plan.specs.declared.ends.Ending.TheVariants.{Stopped, Suspended, U
 use Rattle.nk_plan.specs.Journal.{first, final, cut}
 use Rattle.nk_plan.specs.Trace.{SeqTrace}
 use Rattle.nk_plan.specs.Channel.{Channel}
-use Rattle.nk_plan.specs.Child.{ChildState, child_after}
+use Rattle.nk_plan.specs.Child.{ChildState}
 use Rattle.nk_plan.specs.Run.{state_of, trace_of, Run}
 use Rattle.nk_plan.specs.Ending.{ending_of}
 use Rattle.nk_plan.specs.Enabled.{IsSettled}
 use Rattle.nk_plan.specs.Calm.{IsCalm, calm_trace}
 use Rattle.nk_laws.specs.Laws.{OrderRunsLaw, RunLaw, StateLaw, EndingLaw, CalmLaw, ClosedLaw}
-use Rattle.nk_laws.proofs.Tools.{by_bool}
 use Rattle.nk_laws.proofs.Joined.{Joined}
 use Rattle.nk_sink.specs.Listener.{Listener, ends_of}
 use Rattle.nk_sink.specs.Reached.{IsDrained, ReadersLaw, readers_of, whole_end}

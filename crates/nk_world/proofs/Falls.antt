@@ -1,5 +1,5 @@
 -- Each step that is enabled leaves a channel at play less to do, and so does each round in which a step was.
-use Rattle.std.proofs.Common.{ℕ, ◌≡◌, ◌<◌, ◌⊎◌, inl, inr, refl, sym, ◌∙◌, ap, subst, Bool, true, false, not, ◌&&◌, List, [], ◌∷◌, arith}
+use Rattle.std.proofs.Common.{ℕ, ◌≡◌, ◌<◌, ◌⊎◌, inl, inr, refl, sym, ◌∙◌, ap, subst, true, false, not, List, [], ◌∷◌, arith}
 use Rattle.nk_plan.specs.declared.step.Step.{Step}
 use Rattle.nk_plan.specs.declared.step.Step.TheVariants.{Act, Verdict, Fetch, Up, Forward, Main, Back, Release, Begin, Finish, Read}
 use Rattle.nk_plan.specs.Channel.{Channel, channel_step}
@@ -9,7 +9,7 @@ use Rattle.nk_sink.specs.Reached.{LowersLaw}
 use Rattle.nk_drain.specs.Work.{steps_left}
 use Rattle.nk_drain.specs.Laws.{LeftLaw}
 use Rattle.nk_laws.proofs.Tools.{by_bool, both}
-use Rattle.nk_world.specs.Play.{Play, play_step, play_enabled, tried, are_idle, round_steps, round, IsReached, IsQuiet}
+use Rattle.nk_world.specs.Play.{Play, play_step, play_enabled, tried, are_idle, round_steps, round, IsReached}
 use Rattle.nk_world.proofs.Plays.{reached_channel, reached_step}
 use Rattle.nk_world.proofs.Heard.{Heard, heard, good_kind}
 use Rattle.nk_world.proofs.Idle.{IdleLaws, idle_step, idle_all}

@@ -1,5 +1,5 @@
 -- The entries that were delivered are handed over one by one.
-use Rattle.std.proofs.Common.{◌≡◌, sym, ◌∙◌, ap, Bool, false, List, [], ◌∷◌, length, drop, slice_get, None}
+use Rattle.std.proofs.Common.{◌≡◌, sym, ◌∙◌, ap, Bool, false, List, [], drop, slice_get, None}
 use Rattle.nk_base.specs.Outs.{OutParts}
 use Rattle.nk_base.specs.declared.message.Entry.{Entry}
 use Rattle.nk_sink.specs.Listener.{Listener, entered_all}

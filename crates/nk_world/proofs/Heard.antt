@@ -1,5 +1,5 @@
 -- The listener of a channel at play is one that entries and reads led to.
-use Rattle.std.proofs.Common.{ℕ, ◌≡◌, ◌≤◌, refl, ap, subst, List, [], ◌∷◌}
+use Rattle.std.proofs.Common.{ℕ, ◌≡◌, refl, ap, subst, List, [], ◌∷◌}
 use Rattle.nk_base.specs.declared.message.Entry.{Entry}
 use Rattle.nk_plan.specs.declared.plan.ChannelPlan.{ChannelPlan}
 use Rattle.nk_plan.specs.declared.plan.ListenerKind.{ListenerKind}
@@ -11,7 +11,6 @@ use Rattle.nk_plan.specs.Channel.{channel_step}
 use Rattle.nk_sink.specs.Listener.{Listener, entered, entered_all, read_turn}
 use Rattle.nk_sink.specs.Reached.{IsGoodKind, ListenerStep, Enter, Turn, listener_after}
 use Rattle.nk_world.specs.Play.{Play, shown_since, listened, play_after, IsReached}
-use Rattle.nk_world.proofs.Plays.{plan_is}
 
 pub record Heard (k : ListenerKind) (l : Listener) : Type 0 where
   pub steps : List ListenerStep

@@ -1,6 +1,6 @@
 -- A step that is not enabled changes nothing, and so does a round of such steps. So more rounds than are needed change
 -- nothing, and what a drain leaves is one.
-use Rattle.std.proofs.Common.{ℕ, zero, suc, ◌≡◌, ◌+◌, ◌-◌, ◌≤◌, ◌<◌, ◌⊎◌, inl, inr, refl, sym, ◌∙◌, ap, subst, Bool, true, false, not, ◌&&◌, List, [], ◌∷◌, length, drop, arith}
+use Rattle.std.proofs.Common.{ℕ, zero, suc, ◌≡◌, ◌+◌, ◌-◌, ◌≤◌, inl, inr, refl, sym, ◌∙◌, ap, subst, Bool, true, false, not, List, [], ◌∷◌, arith}
 use Rattle.nk_base.specs.declared.message.Entry.{Entry}
 use Rattle.nk_plan.specs.declared.step.Step.{Step}
 use Rattle.nk_plan.specs.declared.step.Step.TheVariants.{Act, Verdict, Fetch, Up, Forward, Main, Back, Release, Begin, Finish, Read}
@@ -8,7 +8,7 @@ use Rattle.nk_plan.specs.Channel.{Channel, channel_step}
 use Rattle.nk_sink.specs.Listener.{Listener, entered_all, read_enabled, read_turn}
 use Rattle.nk_sink.specs.Reached.{IdleLaw}
 use Rattle.nk_drain.specs.Laws as drain
-use Rattle.nk_laws.proofs.Tools.{one, other, by_bool, le_or_more}
+use Rattle.nk_laws.proofs.Tools.{one, other, le_or_more}
 use Rattle.nk_world.specs.Play.{Play, shown_since, play_step, play_enabled, tried, are_idle, round_steps, round, rounds, IsReached, IsQuiet, IsDrained}
 use Rattle.nk_world.proofs.Plays.{reached_step, none_shown}
 use Rattle.nk_world.proofs.Heard.{Heard, heard, good_kind}

@@ -7,7 +7,7 @@ use Rattle.nk_plan.specs.declared.plan.ChannelPlan.{ChannelPlan}
 use Rattle.nk_plan.specs.declared.step.Step.{Step}
 use Rattle.nk_plan.specs.Accepted.{Accepted}
 use Rattle.nk_world.specs.Play.{Play, new_play, play_step, rounds, IsReached, IsDrained}
-use Rattle.nk_world.specs.World.{step_in, world_step, AreDrained}
+use Rattle.nk_world.specs.World.{step_in, AreDrained}
 use Rattle.nk_world.specs.Laws.{NewLaw, StepLaw}
 use Rattle.nk_world.proofs.Plays.{reached_step}
 use Rattle.nk_world.proofs.Idle.{IdleLaws}

@@ -1,5 +1,5 @@
 -- What the calls of a step leave of a channel's parts is the channel after that step.
-use Rattle.std.proofs.Common.{ℕ, suc, ◌≡◌, ◌+◌, ◌-◌, ◌<◌, ◌≤◌, ◌^◌, refl, sym, ◌∙◌, ap, subst, Bool, true, false, not, ◌&&◌, nat_lt, List, [], ◌∷◌, ◌++◌, length, take, drop, slice_get, Option, Some, None, min, if◌then◌else◌, arith, length-append, length-drop}
+use Rattle.std.proofs.Common.{ℕ, suc, ◌≡◌, ◌+◌, ◌<◌, ◌≤◌, ◌^◌, refl, sym, ◌∙◌, ap, subst, Bool, true, false, nat_lt, List, [], ◌∷◌, ◌++◌, length, take, drop, slice_get, Some, if◌then◌else◌, arith, length-drop}
 use Rattle.nk_base.specs.Outs.{OutParts}
 use Rattle.nk_base.specs.declared.message.MainMsg.{MainMsg}
 use Rattle.nk_base.specs.declared.message.BackMsg.{BackMsg}
@@ -14,12 +14,12 @@ use Rattle.nk_plan.specs.declared.step.ChildStep.TheVariants as child
 use Rattle.nk_plan.specs.Journal.{mains_sent, backs_sent}
 use Rattle.nk_plan.specs.Parent.{ParentState, parent_step}
 use Rattle.nk_plan.specs.Child.{ChildState, child_step}
-use Rattle.nk_plan.specs.Channel.{Channel, main_lane, back_lane, up_lane, up_step, main_step, back_step, channel_step}
+use Rattle.nk_plan.specs.Channel.{Channel, main_lane, back_lane, up_lane, up_step, main_step, back_step}
 use Rattle.nk_parent.specs.Views.{ParentView, added}
 use Rattle.nk_sink.specs.Listener.{Listener, entered_all, read_turn}
 use Rattle.nk_drain.specs.Work.{half_lane}
 use Rattle.nk_laws.proofs.Blocks.{mains_of, backs_of}
-use Rattle.nk_laws.proofs.Joined.{Joined, up_journal}
+use Rattle.nk_laws.proofs.Joined.{up_journal}
 use Rattle.nk_laws.proofs.Ordered.{more_there}
 use Rattle.nk_laws.proofs.Tools.{append_nil}
 use Rattle.std.proofs.Math.Seq.{drop-append_seam}

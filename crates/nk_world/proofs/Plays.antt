@@ -1,5 +1,5 @@
 -- A channel at play is a channel, and its listener was handed all that the child has shown.
-use Rattle.std.proofs.Common.{ℕ, ◌≡◌, refl, sym, ◌∙◌, ap, subst, List, [], ◌∷◌, ◌++◌, length, drop, append_assoc, if◌then◌else◌, nat_lt}
+use Rattle.std.proofs.Common.{◌≡◌, refl, sym, ◌∙◌, ap, subst, List, [], ◌∷◌, ◌++◌, length, drop, append_assoc, nat_lt}
 use Rattle.nk_base.specs.declared.message.Entry.{Entry}
 use Rattle.nk_base.specs.declared.message.MainMsg.{MainMsg}
 use Rattle.nk_base.specs.declared.message.BackMsg.{BackMsg}
@@ -9,11 +9,11 @@ use Rattle.nk_plan.specs.declared.step.Step.{Step}
 use Rattle.nk_plan.specs.declared.step.Step.TheVariants.{Act, Verdict, Fetch, Up, Forward, Main, Back, Release, Begin, Finish, Read}
 use Rattle.nk_plan.specs.declared.step.ChildStep.TheVariants as child
 use Rattle.nk_plan.specs.Journal.{backs_sent}
-use Rattle.nk_plan.specs.Channel.{Channel, main_lane, back_lane, up_lane, up_step, main_step, back_step, forward_step, new_channel, channel_step, channel_after}
-use Rattle.nk_sink.specs.Listener.{Listener, entered, entered_all, read_turn}
+use Rattle.nk_plan.specs.Channel.{Channel, main_lane, back_lane, up_lane, up_step, main_step, back_step, channel_step, channel_after}
+use Rattle.nk_sink.specs.Listener.{Listener, entered, entered_all}
 use Rattle.nk_laws.proofs.Tools.{append_nil, keeps_if}
 use Rattle.nk_laws.proofs.Joined.{Joined, joined, rest_after}
-use Rattle.nk_world.specs.Play.{Play, new_play, shown_since, listened, play_step, play_after, IsReached}
+use Rattle.nk_world.specs.Play.{Play, shown_since, listened, play_step, play_after, IsReached}
 use Rattle.nk_world.proofs.Traces.{Longer, longer}
 
 -- THE CHANNEL

@@ -1,5 +1,5 @@
 -- Worked rows: what a drained channel leaves. Each row is a computation.
-use Rattle.std.proofs.Common.{ℕ, ◌≡◌, refl, true, List, [], ◌∷◌, ◌++◌, replicate, Some, map}
+use Rattle.std.proofs.Common.{ℕ, ◌≡◌, refl, true, List, [], ◌∷◌, replicate, Some, map}
 use Rattle.nk_base.specs.declared.status.Target.TheVariants as target
 use Rattle.nk_base.specs.declared.message.Entry.{Entry}
 use Rattle.nk_base.specs.declared.message.Entry.TheVariants as shown
@@ -9,13 +9,12 @@ use Rattle.nk_plan.specs.declared.plan.StartLane.TheVariants as lane
 use Rattle.nk_plan.specs.declared.plan.Hop.TheVariants as hop
 use Rattle.nk_plan.specs.declared.plan.ListenerKind.TheVariants as listener
 use Rattle.nk_plan.specs.declared.plan.Reaction.TheVariants as reaction
-use Rattle.nk_plan.specs.declared.plan.Act.TheVariants as act
 use Rattle.nk_plan.specs.declared.ends.Ending.{Ending}
 use Rattle.nk_plan.specs.declared.ends.Ending.TheVariants.{Stopped, Suspended, Unopened}
 use Rattle.nk_plan.specs.declared.ends.ReaderEnd.{ReaderEnd}
 use Rattle.nk_plan.specs.declared.step.Step.{Step}
 use Rattle.nk_plan.specs.declared.step.Step.TheVariants.{Act, Fetch, Up, Forward, Main, Back, Release, Begin, Finish, Read}
-use Rattle.nk_laws.proofs.Played.{plan_of, head, response, allow, after, failure, refused, ab, cd, hello}
+use Rattle.nk_laws.proofs.Played.{plan_of, response, allow, failure, refused, ab, cd, hello}
 use Rattle.nk_world.specs.Play.{Play, new_play, tried, rounds, are_idle, round_steps}
 use Rattle.nk_world.specs.World.{world_rounds, world_step}
 use Rattle.nk_world.specs.End.{end_of}

@@ -1,10 +1,10 @@
 -- Where every step of a round is idle, no step that a drain tries is enabled, and no pump of the listener has a turn.
-use Rattle.std.proofs.Common.{ℕ, zero, suc, ◌≡◌, ◌+◌, ◌≤◌, ◌<◌, ◌⊎◌, inl, inr, refl, sym, ◌∙◌, ap, subst, true, false, not, List, [], ◌∷◌, ◌++◌, map, arith}
+use Rattle.std.proofs.Common.{ℕ, zero, suc, ◌≡◌, ◌+◌, ◌≤◌, ◌<◌, inl, inr, refl, ap, subst, true, false, not, List, [], ◌∷◌, ◌++◌, map, arith}
 use Rattle.nk_base.specs.declared.status.Target.{Target}
 use Rattle.nk_base.specs.declared.status.Target.TheVariants as target
 use Rattle.nk_plan.specs.declared.step.Step.{Step}
 use Rattle.nk_plan.specs.declared.step.Step.TheVariants.{Act, Verdict, Fetch, Up, Forward, Main, Back, Release, Begin, Finish, Read}
-use Rattle.nk_plan.specs.Enabled.{IsTried, IsTriedStep, IsSettled}
+use Rattle.nk_plan.specs.Enabled.{IsTried, IsSettled}
 use Rattle.nk_plan.specs.Lanes.{Among}
 use Rattle.nk_sink.specs.Reached.{IsDrained}
 use Rattle.nk_laws.proofs.Tools.{among_more, one, other, le_or_more}

@@ -1,22 +1,16 @@
 -- What each step leaves of the lanes of a channel that some steps led to.
-use Rattle.std.proofs.Common.{ℕ, suc, ◌≡◌, ◌+◌, ◌≤◌, refl, sym, ◌∙◌, ap, List, [], ◌∷◌, ◌++◌, length, take, drop, append_assoc, arith, length-append}
+use Rattle.std.proofs.Common.{ℕ, suc, ◌≡◌, ◌+◌, ◌≤◌, sym, ◌∙◌, ap, List, ◌++◌, length, take, drop, length-append}
 use Rattle.std.proofs.lemmas.List.{drop-append-le, drop-drop, take-append-le}
-use Rattle.nk_base.specs.declared.message.MainMsg.{MainMsg}
 use Rattle.nk_base.specs.declared.message.BackMsg.{BackMsg}
-use Rattle.nk_base.specs.declared.message.UpMsg.{UpMsg}
 use Rattle.nk_plan.specs.declared.plan.ChannelPlan.{ChannelPlan}
 use Rattle.nk_plan.specs.declared.journal.ParentEntry.{ParentEntry}
-use Rattle.nk_plan.specs.declared.journal.ChildEntry.{ChildEntry}
 use Rattle.nk_plan.specs.declared.step.ParentStep.{ParentStep}
-use Rattle.nk_plan.specs.declared.step.ParentStep.TheVariants as parent
 use Rattle.nk_plan.specs.declared.step.ChildStep.{ChildStep}
-use Rattle.nk_plan.specs.declared.step.ChildStep.TheVariants as child
 use Rattle.nk_plan.specs.Journal.{mains_taken, backs_taken, ups_taken, mains_sent, backs_sent}
 use Rattle.nk_plan.specs.Parent.{ParentState, parent_step}
 use Rattle.nk_plan.specs.Child.{ChildState, child_step}
 use Rattle.nk_plan.specs.Channel.{Channel, main_lane, back_lane, up_lane}
 use Rattle.nk_drain.specs.Work.{half_lane}
-use Rattle.nk_laws.proofs.Tools.{append_nil}
 use Rattle.nk_laws.proofs.ParentLaw.{ups-append, mains-append, backs-append}
 use Rattle.nk_laws.proofs.Grows as child_side
 use Rattle.nk_laws.proofs.Blocks.{ups_of, mains_of, backs_of, ParentEnters, parent_enters, ChildEnters, child_enters}

@@ -1,8 +1,7 @@
 -- Channels do not touch each other: to drain one after another is to drain them all by rounds.
-use Rattle.std.proofs.Common.{ℕ, zero, suc, ◌≡◌, ◌+◌, ◌≤◌, ◌⊎◌, inl, inr, refl, sym, ◌∙◌, ap, subst, List, [], ◌∷◌, arith}
+use Rattle.std.proofs.Common.{ℕ, zero, suc, ◌≡◌, ◌+◌, ◌≤◌, refl, sym, ◌∙◌, ap, subst, List, [], ◌∷◌, arith}
 use Rattle.std.specs.List.{All, AllZip}
 use Rattle.std.proofs.lemmas.List.Elements.{All-nil, All-cons, All-head, All-tail}
-use Rattle.nk_laws.proofs.Tools.{le_or_more}
 use Rattle.nk_world.specs.Play.{Play, round, rounds, IsReached, IsQuiet, IsDrained}
 use Rattle.nk_world.specs.World.{world_round, world_rounds, AreDrained}
 use Rattle.nk_world.proofs.Idle.{IdleLaws, enough_rounds}

@@ -1,6 +1,6 @@
 -- A channel at play: its two halves with the lanes between them, and the listener that is shown the load. It is moved step by
 -- step, and in the end by rounds. This project's own.
-use Rattle.std.specs.Prelude.{ℕ, zero, suc, ◌≡◌, Bool, true, false, not, ◌&&◌, List, [], ◌∷◌, ◌++◌, length, drop, map}
+use Rattle.std.specs.Prelude.{ℕ, zero, suc, ◌≡◌, Bool, true, not, ◌&&◌, List, [], ◌∷◌, ◌++◌, length, drop, map}
 use Rattle.nk_base.specs.declared.message.Entry.{Entry}
 use Rattle.nk_base.specs.declared.status.Moved.{Moved}
 use Rattle.nk_base.specs.declared.status.Moved.TheVariants.{Did, Idle}

@@ -1,5 +1,5 @@
 -- One channel more has left its end.
-use Rattle.std.proofs.Common.{◌≡◌, ◌++◌, ◌∷◌, [], ◌∙◌, sym, ap, List, append_assoc}
+use Rattle.std.proofs.Common.{◌++◌, ◌∷◌, [], ◌∙◌, sym, ap, List, append_assoc}
 use Rattle.std.proofs.lemmas.List.Elements.{All-rest}
 use Rattle.nk_world.specs.declared.playing.Playing.{Playing}
 use Rattle.nk_world.specs.Parts.{IsSound}

@@ -1,5 +1,5 @@
 -- The ends are those of the channels, and the laws promise what each is.
-use Rattle.nk_world.proofs.Channels.{world_ends, world_promised}
+use Rattle.nk_world.proofs.Channels.{world_promised}
 use Rattle.nk_world.proofs.world.World.into_ends.Goals as goal
 
 pub returns-clause-promised : goal.returns-clause-promised

@@ -1,5 +1,5 @@
 -- A channel was made for each plan.
-use Rattle.std.proofs.Common.{◌≡◌, ◌∙◌, ap, map, take, Bool, false, List}
+use Rattle.std.proofs.Common.{◌∙◌, ap, map, false, List}
 use Rattle.std.proofs.lemmas.List.{take_all}
 use Rattle.nk_plan.specs.declared.plan.ChannelPlan.{ChannelPlan}
 use Rattle.nk_world.specs.Play.{Play}

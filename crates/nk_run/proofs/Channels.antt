@@ -1,0 +1,120 @@
+use Rattle.std.proofs.Common.{◌≡◌, ◌≢◌, ◌≤◌, ◌<◌, ◌+◌, ℕ, zero, suc, refl, sym, ap, subst, ◌∙◌, List, [], ◌∷◌, length, map, drop, get_or, sum_by, slice_get, All, Option, Some, None, Result, Ok, Err, IfOk, arith}
+use Rattle.std.specs.List.{AllZip}
+use Rattle.std.proofs.lemmas.List.{drop_more, length-append, length-map, length-replicate}
+use Rattle.std.proofs.lemmas.List.Elements.{All-nil, All-cons, All-head, All-tail, All-replicate}
+use Rattle.std.proofs.lemmas.List.Sums.{sum_by-cons}
+use Rattle.std.proofs.lemmas.Option.{get_or_from_slice_get}
+use Rattle.std.proofs.Math.Seq.{map-set_same}
+use Rattle.nk_base.specs.declared.message.Entry.{Entry}
+use Rattle.nk_base.specs.declared.message.Entry.TheVariants as entry
+use Rattle.nk_plan.specs.declared.plan.ChannelPlan.{ChannelPlan}
+use Rattle.nk_plan.specs.declared.plan.ListenerKind.{ListenerKind}
+use Rattle.nk_plan.specs.declared.plan.ListenerKind.TheVariants as listener
+use Rattle.nk_plan.specs.declared.ends.ChannelEnd.{ChannelEnd}
+use Rattle.nk_plan.specs.declared.ends.ReaderEnd.{ReaderEnd}
+use Rattle.nk_plan.specs.declared.ends.Ending.TheVariants as ending
+use Rattle.nk_plan.specs.declared.step.Step.{Step}
+use Rattle.nk_plan.specs.Accepted.{Accepted, IsGoodListener, body_size}
+use Rattle.nk_script.specs.declared.script.ScheduleItem.{ScheduleItem}
+use Rattle.nk_sink.specs.Listener.{body_of}
+use Rattle.nk_sink.specs.Reached.{readers_of, whole_end}
+use Rattle.nk_gen.specs.Summing.{size_of, bytes_in, AreSumsSmall}
+use Rattle.nk_gen_law.specs.Laws.{Fits, SumsLaw}
+use Rattle.nk_world.specs.Play.{Play, new_play, play_step, tried, round_steps, IsQuiet}
+use Rattle.nk_world.specs.World.{plan_of, step_in, world_step, world_round, world_rounds, AreDrained}
+use Rattle.nk_world.specs.End.{IsEnd}
+use Rattle.nk_run.specs.Ends.{scheduled, AreEnds}
+
+-- CHANNELS KEEP THEIR PLANS
+
+step_keeps : (i : ℕ) (x : Step) (ps : List Play) (o : Option Play) → slice_get ps i ≡ o → map plan_of (step_in i x ps o) ≡ map plan_of ps
+step_keeps i x ps None e = refl
+step_keeps i x ps (Some p) e =
+    let same : plan_of (play_step x p) ≡ plan_of p = refl in
+    map-set_same plan_of ps i (play_step x p) p (same ∙ ap plan_of (sym (get_or_from_slice_get ps i p p e)))
+
+-- a step of the schedule
+pub plans_step : (channel : ℕ) (x : Step) (ps : List Play) → map plan_of (world_step channel x ps) ≡ map plan_of ps
+plans_step channel x ps = step_keeps _ x ps _ refl
+
+tried_keeps : (xs : List Step) (p : Play) → plan_of (tried xs p) ≡ plan_of p
+tried_keeps [] p = refl
+tried_keeps (x ∷ xs) p = tried_keeps xs (play_step x p)
+
+round_keeps : (ps : List Play) → map plan_of (world_round ps) ≡ map plan_of ps
+round_keeps [] = refl
+round_keeps (p ∷ ps) =
+    ap (λ (c : ChannelPlan). c ∷ map plan_of (world_round ps)) (tried_keeps round_steps p)
+    ∙ ap (λ (cs : List ChannelPlan). plan_of p ∷ cs) (round_keeps ps)
+
+rounds_keep : (n : ℕ) (ps : List Play) → map plan_of (world_rounds n ps) ≡ map plan_of ps
+rounds_keep zero ps = refl
+rounds_keep (suc n) ps = rounds_keep n (world_round ps) ∙ round_keeps ps
+
+-- the drain
+pub plans_drained : (ps qs : List Play) → AreDrained ps qs → map plan_of qs ≡ map plan_of ps
+plans_drained ps qs d = ap (map plan_of) (sym d.led) ∙ rounds_keep d.count ps
+
+-- there is one channel for each plan
+pub as_many : (ps : List Play) (plans : List ChannelPlan) → map plan_of ps ≡ plans → length ps ≡ length plans
+as_many ps plans e = sym (length-map ps plan_of) ∙ ap length e
+
+-- THE SCHEDULE
+
+pub new_plans : (plans : List ChannelPlan) → map plan_of (map new_play plans) ≡ plans
+new_plans [] = refl
+new_plans (c ∷ plans) = ap (λ (cs : List ChannelPlan). c ∷ cs) (new_plans plans)
+
+-- the next step of a schedule leads where all that are left lead
+pub scheduled_next : (items : List ScheduleItem) (i : ℕ) (d : ScheduleItem) (ps : List Play) → i < length items
+    → scheduled (drop (i + 1) items) (world_step (get_or items i d).channel (get_or items i d).step ps) ≡ scheduled (drop i items) ps
+scheduled_next items i d ps within = ap (λ (xs : List ScheduleItem). scheduled xs ps) (sym (drop_more items i d within))
+
+-- THE ENDS
+
+pub promised_are : {E : Type 0} (r : Result (List ChannelEnd) E) (plans : List ChannelPlan) (drained : List Play) → All IsQuiet drained → map plan_of drained ≡ plans
+    → IfOk r (λ ends. All IsQuiet drained → AreEnds (map plan_of drained) ends) → IfOk r (λ ends. AreEnds plans ends)
+promised_are (Ok ends) plans drained q same h = subst (λ (cs : List ChannelPlan). AreEnds cs ends) same (h q)
+promised_are (Err x) plans drained q same h = tt
+
+-- no channel is still going
+pub none_going : (plans : List ChannelPlan) (ends : List ChannelEnd) → AreEnds plans ends → All (λ (e : ChannelEnd). e.ending ≢ ending.Going) ends
+none_going [] [] h = All-nil (λ (x : ChannelEnd). x.ending ≢ ending.Going)
+none_going [] (e ∷ ends) h = absurd h
+none_going (c ∷ plans) [] h = absurd h
+none_going (c ∷ plans) (e ∷ ends) (here, rest) = All-cons (λ (x : ChannelEnd). x.ending ≢ ending.Going) e ends here.over (none_going plans ends rest)
+
+-- THE SUMS
+
+few_readers : (k : ListenerKind) (size : ℕ) → IsGoodListener k size → readers_of k ≤ 8
+few_readers listener.Plain size h = omega arith
+few_readers (listener.Pipe segment limit readers) size h = h.readers_most
+
+-- the bytes before the first stop are some of all
+body_small : (t : List Entry) → length (body_of t) ≤ sum_by size_of t
+body_small [] = omega arith
+body_small (entry.Start code s ∷ t) = omega (arith, sum_by-cons size_of (entry.Start code s) t, body_small t)
+body_small (entry.Bytes offset piece ∷ t) =
+    omega (arith, sum_by-cons size_of (entry.Bytes offset piece) t, length-append piece (body_of t), body_small t)
+body_small (entry.Stop s trailers ∷ t) = omega arith
+
+fits : (c : ChannelPlan) (e : ChannelEnd) → Accepted c → IsEnd c e → Fits c e
+fits c e a h =
+    let many : length e.readers ≡ readers_of c.listener = ap length h.readers ∙ length-replicate (readers_of c.listener) (whole_end e.trace) in
+    record {
+      sequential = h.sequential;
+      few_readers = omega (arith, many, few_readers c.listener (body_size c) a.listener);
+      readers = subst (All (λ (reader : ReaderEnd). length reader.bytes ≤ bytes_in e)) (sym h.readers)
+          (All-replicate (λ (reader : ReaderEnd). length reader.bytes ≤ bytes_in e) (readers_of c.listener) (whole_end e.trace) (body_small e.trace));
+    }
+
+each_fits : (plans : List ChannelPlan) (ends : List ChannelEnd) → All Accepted plans → AreEnds plans ends → AllZip Fits plans ends
+each_fits [] [] a h = tt
+each_fits [] (e ∷ ends) a h = absurd h
+each_fits (c ∷ plans) [] a h = absurd h
+each_fits (c ∷ plans) (e ∷ ends) a (here, rest) =
+    (fits c e (All-head Accepted c plans a) here, each_fits plans ends (All-tail Accepted c plans a) rest)
+
+-- the sums over the ends can be counted
+pub sums_small : SumsLaw → (plans : List ChannelPlan) (ends : List ChannelEnd) → length plans ≤ 1024 → All Accepted plans → AreEnds plans ends → AreSumsSmall ends
+sums_small law plans ends few a h = law plans ends few a (each_fits plans ends a h)
