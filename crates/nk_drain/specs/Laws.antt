@@ -1,8 +1,9 @@
 -- The laws of the drain, each the contract of a public function.
-use Rattle.std.specs.Prelude.{◌≡◌, ◌<◌, ◌≤◌, ◌⊎◌, true, false, List, [], ◌∷◌, ◌++◌, length}
+use Rattle.std.specs.Prelude.{ℕ, ◌≡◌, ◌<◌, ◌≤◌, ◌⊎◌, true, false, List, [], ◌∷◌, ◌++◌, length}
 use Rattle.nk_plan.specs.declared.plan.ChannelPlan.{ChannelPlan}
 use Rattle.nk_plan.specs.declared.step.Step.{Step}
-use Rattle.nk_plan.specs.Accepted.{Accepted}
+use Rattle.nk_plan.specs.Accepted.{Accepted, body_of}
+use Rattle.nk_plan.specs.Plan.{pieces_at}
 use Rattle.nk_plan.specs.Channel.{Channel, main_lane, back_lane, up_lane, channel_step, new_channel, channel_after}
 use Rattle.nk_plan.specs.Enabled.{channel_enabled}
 use Rattle.nk_drain.specs.Work.{half_lane, work, steps_left, Falls}
@@ -41,6 +42,10 @@ WorkLaw = (c : ChannelPlan) (steps : List Step) (x : Step) → Accepted c →
 -- a new channel has less than 2^24 to do
 abbrev pub StartLaw : Type 0
 StartLaw = (c : ChannelPlan) → Accepted c → work c (new_channel c) < 16777216
+
+-- no hop has more pieces than the body of the response
+abbrev pub PiecesLaw : Type 0
+PiecesLaw = (c : ChannelPlan) (hop : ℕ) → Accepted c → length (pieces_at c hop) ≤ length (body_of c)
 
 -- each lane is at most the work, whatever the channel
 abbrev pub WithinLaw : Type 0

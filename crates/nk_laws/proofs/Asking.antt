@@ -24,7 +24,8 @@ use Rattle.nk_laws.proofs.Tools.{keeps_if, append_nil, among_more, among_split}
 use Rattle.nk_plan.specs.declared.event.ChildEvent.TheVariants.{Redirect1 as Redirect1Event}
 use Rattle.nk_laws.proofs.Merge.{main_events-append}
 use Rattle.nk_laws.proofs.Taking.{main_events, whole_unbroken}
-use Rattle.nk_laws.proofs.Joined.{Adds, fetch_step_adds, up_journal, Joined, joined}
+use Rattle.nk_laws.specs.Moves.{Joined}
+use Rattle.nk_laws.proofs.Joined.{Adds, fetch_step_adds, up_journal, joined}
 use Rattle.nk_laws.proofs.Lively.{child_lively, nothing_waits}
 use Rattle.nk_laws.proofs.LivelyQueue.{IsLively}
 use Rattle.nk_laws.proofs.Questions.{asked, asked-append, Asks, asks_more, IsQuizzed, child_quizzed}

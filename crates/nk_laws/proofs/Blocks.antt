@@ -18,6 +18,7 @@ use Rattle.nk_plan.specs.Parent.{ParentState, parent_step, parent_after}
 use Rattle.nk_plan.specs.Child.{ChildState, with_entry, step_main, step_back, child_step, child_after}
 use Rattle.nk_plan.specs.Run.{parent_block, child_block, parent_blocks, child_blocks}
 use Rattle.nk_plan.specs.Walk.{ParentBlock, ChildBlock, counted}
+use Rattle.nk_laws.specs.Moves.{ups_of, mains_of, backs_of}
 use Rattle.nk_laws.proofs.Tools.{append_nil, last_empty}
 use Rattle.nk_laws.proofs.ParentLaw.{ups-append, mains-append, backs-append}
 use Rattle.nk_laws.proofs.Grows as child_side
@@ -26,10 +27,6 @@ use Rattle.nk_laws.proofs.Joined.{fetch_step_adds, up_journal, rest_after}
 use Rattle.nk_laws.proofs.More.{all_up, all_mains, all_backs, all_main, all_back, all_ups}
 
 -- The parent
-
-abbrev pub ups_of : ParentStep → List UpMsg
-ups_of (parent.Up m) = m ∷ []
-ups_of parent.Fetch = []
 
 -- the entries behind the first take nothing
 abbrev pub ParentTakesFirst : List ParentEntry → Type 0
@@ -60,26 +57,6 @@ parent_enters c parent.Fetch s =
     record { entries = a.entries; journal_is = a.journal_is; ups = a.no_up; takes_first = takes_none a.entries a.no_up }
 
 -- The child
-
-abbrev pub mains_of : ChildStep → Bool → List MainMsg
-mains_of child.Act broken = []
-mains_of child.Verdict broken = []
-mains_of (child.Main m) true = []
-mains_of (child.Main m) false = m ∷ []
-mains_of (child.Back m) broken = []
-mains_of child.Release broken = []
-mains_of (child.Begin t) broken = []
-mains_of (child.Finish t) broken = []
-
-abbrev pub backs_of : ChildStep → Bool → List BackMsg
-backs_of child.Act broken = []
-backs_of child.Verdict broken = []
-backs_of (child.Main m) broken = []
-backs_of (child.Back m) true = []
-backs_of (child.Back m) false = m ∷ []
-backs_of child.Release broken = []
-backs_of (child.Begin t) broken = []
-backs_of (child.Finish t) broken = []
 
 -- the entries behind the first take nothing
 abbrev pub ChildTakesFirst : List ChildEntry → Type 0

@@ -31,7 +31,8 @@ use Rattle.nk_plan.specs.declared.event.ChildEvent.TheVariants.{Start as StartEv
 use Rattle.nk_laws.proofs.Order.{Around, Holds, AtHop, InBody, AtEnd}
 use Rattle.nk_laws.proofs.Merge.{final_there, start_redirects}
 use Rattle.nk_laws.proofs.Taking.{redirects, broken_is, backs_is}
-use Rattle.nk_laws.proofs.Joined.{Joined, joined, run_trace}
+use Rattle.nk_laws.specs.Moves.{Joined}
+use Rattle.nk_laws.proofs.Joined.{joined, run_trace}
 use Rattle.std.proofs.lemmas.Bool.Decides.{eqb_tells}
 use Rattle.nk_plan.specs.declared.plan.Verdict.{Verdict as Answer}
 use Rattle.nk_plan.specs.Calm.{IsCalm, last_hop, opening_failure, veto_of, data_of, stop_of, calm_body, calm_started, calm_from, calm_trace, start_reaction, data_reaction, finish_of, sooner}

@@ -18,7 +18,8 @@ use Rattle.nk_laws.proofs.ParentLaw.{lane_law}
 use Rattle.nk_laws.proofs.Order.{Around, Holds, strip, AtHop, InBody, AtEnd, Legal}
 use Rattle.nk_laws.proofs.Merge.{run_inv, start_inv, fed, prefix_of_take, within_before}
 use Rattle.nk_laws.proofs.Taking.{Within, main_events, Whole, Cut, Inv, hold_is, backs_is, broken_is}
-use Rattle.nk_laws.proofs.Joined.{Joined, joined, rest_after, main_says, back_says}
+use Rattle.nk_laws.specs.Moves.{Joined}
+use Rattle.nk_laws.proofs.Joined.{joined, rest_after, main_says, back_says}
 use Rattle.nk_laws.proofs.Lively.{child_lively}
 use Rattle.nk_laws.proofs.LivelyQueue.{IsLively}
 use Rattle.nk_base.specs.declared.status.Status.{Status}

@@ -6,13 +6,13 @@ use Rattle.nk_base.specs.declared.message.BackMsg.{BackMsg}
 use Rattle.nk_base.specs.declared.message.UpMsg.{UpMsg}
 use Rattle.nk_plan.specs.declared.plan.ChannelPlan.{ChannelPlan}
 use Rattle.nk_plan.specs.declared.journal.ParentEntry.{ParentEntry}
-use Rattle.nk_plan.specs.declared.step.ParentStep.{ParentStep}
 use Rattle.nk_plan.specs.declared.step.ChildStep.{ChildStep}
+use Rattle.nk_laws.specs.Moves.{Joined}
 use Rattle.nk_laws.proofs.Premises.{PlanOk}
 use Rattle.nk_plan.specs.Trace.{SeqTrace}
-use Rattle.nk_plan.specs.Parent.{ParentState, parent_after, parent_step, start_entries, give_start, bare_head, fetch_finish, fetch_piece, fetch_body, fetch_redirect, fetch_hop, fetch_follow, fetch_in, take_up}
+use Rattle.nk_plan.specs.Parent.{ParentState, parent_step, start_entries, give_start, bare_head, fetch_finish, fetch_piece, fetch_body, fetch_redirect, fetch_hop, fetch_follow, fetch_in, take_up}
 use Rattle.nk_plan.specs.Journal.{mains_sent, backs_sent, ups_taken, mains_taken, backs_taken, first, final, cut}
-use Rattle.nk_plan.specs.Child.{ChildState, child_after, child_step, with_entry, step_main, step_back}
+use Rattle.nk_plan.specs.Child.{ChildState, child_step, with_entry, step_main, step_back}
 use Rattle.nk_plan.specs.Lanes.{IsPrefix}
 use Rattle.nk_plan.specs.Channel.{Channel, main_lane, back_lane, up_lane, up_step, main_step, back_step, forward_step, channel_step, channel_after}
 use Rattle.nk_plan.specs.declared.step.Step.{Step}
@@ -134,17 +134,7 @@ take_more n [] l = absurd (omega arith)
 take_more zero (x ∷ xs) l = (x, refl)
 take_more (suc n) (x ∷ xs) l = let r : (y : _) × (take (suc n) xs ≡ take n xs ++ y ∷ []) = take_more n xs (omega arith) in (r.0, ap (λ t. x ∷ t) r.1)
 
--- Both sides of a channel are runs of their tables, and each took what the other sent, in order
-
-pub record Joined (c : ChannelPlan) (w : Channel) : Type 0 where
-  pub parent_steps : List ParentStep
-  pub parent_is : parent_after c parent_steps ≡ w.parent
-  pub child_steps : List ChildStep
-  pub child_is : child_after c child_steps ≡ w.child
-  pub mains : IsPrefix (mains_taken w.child.journal) (mains_sent w.parent.journal)
-  pub within : w.forwarded ≤ length (backs_sent w.parent.journal)
-  pub backs : IsPrefix (backs_taken w.child.journal) (take w.forwarded (backs_sent w.parent.journal))
-  pub ups : IsPrefix (ups_taken w.parent.journal) w.child.sent
+-- Each step keeps both sides joined
 
 -- a step of the child that takes nothing of a lane
 plain_joined : (c : ChannelPlan) (w : Channel) (x : ChildStep) → NoLane x → Joined c w → Joined c (record w { child = child_step c x w.child })

@@ -27,7 +27,8 @@ use Rattle.nk_laws.proofs.ParentLaw.{mains-append, backs-append, Law, Keeps, par
 use Rattle.nk_laws.proofs.Tools.{keeps_if}
 use Rattle.nk_plan.specs.Failure.{merged, kept_status}
 use Rattle.nk_plan.specs.declared.event.ChildEvent.{ChildEvent}
-use Rattle.nk_laws.proofs.Joined.{up_journal, Joined, joined, run_trace}
+use Rattle.nk_laws.specs.Moves.{Joined}
+use Rattle.nk_laws.proofs.Joined.{up_journal, joined, run_trace}
 use Rattle.std.proofs.lemmas.Bool.{eqb-true}
 use Rattle.std.proofs.lemmas.Bool.Decides.{eqb_tells}
 use Rattle.nk_plan.specs.declared.plan.Verdict.{Verdict as Answer}

@@ -22,6 +22,7 @@ pub mod LivelyQueue
 pub mod LogRows
 pub mod Merge
 pub mod More
+pub mod Moves
 pub mod Order
 pub mod Ordered
 pub mod Orders

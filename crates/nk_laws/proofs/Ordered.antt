@@ -21,9 +21,10 @@ use Rattle.nk_plan.specs.Walk.{ParentBlock, ChildBlock, walk_start, may, CanPlac
 use Rattle.nk_plan.specs.Lanes.{IsPrefix}
 use Rattle.nk_laws.proofs.Tools.{keeps_if}
 use Rattle.nk_laws.proofs.Grows.{NoLane}
-use Rattle.nk_laws.proofs.Joined.{Joined, joined}
+use Rattle.nk_laws.specs.Moves.{Joined, ups_of, mains_of, backs_of}
+use Rattle.nk_laws.proofs.Joined.{joined}
 use Rattle.nk_laws.proofs.Replay.{child_replayed}
-use Rattle.nk_laws.proofs.Blocks.{ups_of, mains_of, backs_of, parent_enters, child_enters, parent_block_at, child_block_at, parent_block_is, child_block_is, parent_sums, child_sums}
+use Rattle.nk_laws.proofs.Blocks.{parent_enters, child_enters, parent_block_at, child_block_at, parent_block_is, child_block_is, parent_sums, child_sums}
 use Rattle.nk_laws.proofs.More.{parent_more, forward_more_at_end, child_more, all_up, all_mains, all_backs, all_main, all_back, all_ups}
 
 -- the steps of the two sides of a channel, and an order of their blocks

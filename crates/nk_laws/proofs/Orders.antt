@@ -28,7 +28,8 @@ use Rattle.nk_laws.proofs.ParentLaw.{ups-append, mains-append, backs-append}
 use Rattle.nk_laws.proofs.Grows as child_side
 use Rattle.nk_laws.proofs.Replay.{child_replayed}
 use Rattle.nk_laws.proofs.Merge.{prefix_of_take}
-use Rattle.nk_laws.proofs.Blocks.{mains_of, backs_of, parent_enters, child_enters, parent_block_at, child_block_at, parent_counts, child_counts}
+use Rattle.nk_laws.specs.Moves.{mains_of, backs_of}
+use Rattle.nk_laws.proofs.Blocks.{parent_enters, child_enters, parent_block_at, child_block_at, parent_counts, child_counts}
 use Rattle.nk_laws.proofs.Ordered.{takes_up_is, takes_main_is, takes_back_is}
 use Rattle.nk_laws.proofs.More.{standing}
 

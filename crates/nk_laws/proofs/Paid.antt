@@ -25,7 +25,8 @@ use Rattle.nk_plan.specs.declared.step.Phase.TheVariants.{Closed, Ready, Asking,
 use Rattle.nk_laws.proofs.ParentLaw.{ups-append, backs-append, Keeps, InBody}
 use Rattle.nk_laws.proofs.Tools.{keeps_if, append_nil, by_bool}
 use Rattle.nk_laws.proofs.Merge.{prefix_of_take}
-use Rattle.nk_laws.proofs.Joined.{Adds, fetch_step_adds, up_journal, Joined, joined}
+use Rattle.nk_laws.specs.Moves.{Joined}
+use Rattle.nk_laws.proofs.Joined.{Adds, fetch_step_adds, up_journal, joined}
 use Rattle.std.proofs.lemmas.Int.{ints}
 use Rattle.nk_plan.specs.Enabled.{body_enabled}
 use Rattle.nk_laws.proofs.Credit.{read_of, read-append, backs_size, backs_size-append, GoodMains, GoodBacks, OwesAll, child_owes}

@@ -30,7 +30,8 @@ use Rattle.nk_laws.proofs.Lively.{child_lively}
 use Rattle.nk_laws.proofs.Bounds.{child_bounded}
 use Rattle.nk_laws.proofs.Tally.{child_tally, journal_ending}
 use Rattle.nk_laws.proofs.Replay.{child_replayed, determined}
-use Rattle.nk_laws.proofs.Joined.{Joined, joined}
+use Rattle.nk_laws.specs.Moves.{Joined}
+use Rattle.nk_laws.proofs.Joined.{joined}
 use Rattle.nk_laws.proofs.Ordered.{order_is_run}
 use Rattle.nk_laws.proofs.Orders.{run_is_order}
 use Rattle.nk_laws.proofs.Settled.{ending_told}

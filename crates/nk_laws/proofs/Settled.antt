@@ -29,7 +29,8 @@ use Rattle.nk_plan.specs.declared.ends.Ending.TheVariants.{Stopped, Suspended, U
 use Rattle.nk_plan.specs.Ending.{state_ending, ends_in_stop, comes_at}
 use Rattle.nk_laws.proofs.ParentLaw.{Keeps, InBody, parent_keeps}
 use Rattle.nk_laws.proofs.Taking.{Whole, hold_is, mains_is, whole_unbroken}
-use Rattle.nk_laws.proofs.Joined.{Joined, joined, rest_after, run_trace}
+use Rattle.nk_laws.specs.Moves.{Joined}
+use Rattle.nk_laws.proofs.Joined.{joined, rest_after, run_trace}
 use Rattle.nk_laws.proofs.Lively.{child_lively, nothing_waits}
 use Rattle.nk_laws.proofs.LivelyQueue.{IsLively, FlushedBy, FlushOk, PostedOk}
 use Rattle.nk_laws.proofs.Heard.{Hears, parent_hears}

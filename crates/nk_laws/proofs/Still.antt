@@ -22,7 +22,8 @@ use Rattle.nk_laws.proofs.ParentLaw.{lane_law}
 use Rattle.nk_laws.proofs.Order.{Around, Holds, strip, stops}
 use Rattle.nk_laws.proofs.Merge.{run_inv, start_inv, fed, prefix_of_take}
 use Rattle.nk_laws.proofs.Taking.{Within, main_events, Due, Whole, Cut, Inv, hold_is, mains_is, backs_is, whole_unbroken}
-use Rattle.nk_laws.proofs.Joined.{Joined, joined, rest_after}
+use Rattle.nk_laws.specs.Moves.{Joined}
+use Rattle.nk_laws.proofs.Joined.{joined, rest_after}
 use Rattle.nk_laws.proofs.Lively.{child_lively, nothing_waits}
 use Rattle.nk_laws.proofs.LivelyQueue.{IsLively}
 use Rattle.nk_laws.proofs.Told.{IsTold, child_told, suspends_after}

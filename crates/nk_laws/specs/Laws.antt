@@ -23,6 +23,7 @@ use Rattle.nk_plan.specs.Ending.{ending_of, state_ending, ends_in_stop, waits_to
 use Rattle.nk_plan.specs.Calm.{IsCalm, calm_trace}
 use Rattle.nk_plan.specs.Walk.{Walk, Turn, walk_start, can, placed, is_done, CanPlace, places_all}
 use Rattle.nk_plan.specs.Telling.{new_telling, sends_from, parent_entries, child_entries}
+use Rattle.nk_laws.specs.Moves.{Joined, Moves}
 
 -- The parent
 
@@ -30,6 +31,16 @@ use Rattle.nk_plan.specs.Telling.{new_telling, sends_from, parent_entries, child
 abbrev pub LanesLaw : Type 0
 LanesLaw = (c : ChannelPlan) (p : List ParentEntry) → Accepted c → IsParentRun c p
     → LaneLaw c (ups_taken p) (mains_sent p) (backs_sent p)
+
+-- The lanes of a whole channel, for every order of steps
+
+-- each side took what begins what the other sent
+abbrev pub JoinedLaw : Type 0
+JoinedLaw = (c : ChannelPlan) (steps : List Step) → Joined c (channel_after c steps)
+
+-- each step takes off a lane's front and adds to a lane's end
+abbrev pub MovesLaw : Type 0
+MovesLaw = (c : ChannelPlan) (steps : List Step) → Moves c (channel_after c steps)
 
 -- The merge
 

@@ -1,11 +1,18 @@
 // The laws over the definitions. A law is a function that does nothing: its contract is what is proved, for every plan,
 // every run and every order of steps.
 
-ghost use Rattle.nk_laws.specs.Laws.{LanesLaw, MergeLaw, RunLaw, HopLaw, FailureLaw, CountsLaw, BoundsLaw, SendsLaw, StateLaw, OrderRunsLaw, RunOrderLaw, GreedyLaw, KeepLaw, StuckLaw, EntriesLaw, EndingToldLaw, EndingLaw, BrokenLaw, CalmLaw, ClosedLaw};
+ghost use Rattle.nk_laws.specs.Laws.{LanesLaw, JoinedLaw, MovesLaw, MergeLaw, RunLaw, HopLaw, FailureLaw, CountsLaw, BoundsLaw, SendsLaw, StateLaw, OrderRunsLaw, RunOrderLaw, GreedyLaw, KeepLaw, StuckLaw, EntriesLaw, EndingToldLaw, EndingLaw, BrokenLaw, CalmLaw, ClosedLaw};
 
 /// What a parent sends obeys the lane law, whatever messages come from the page's side.
 pub fn lanes_law()
     ensures { LanesLaw }
+{}
+
+/// In a whole channel each side took what begins what the other sent, and each step takes off a
+/// lane's front and adds to a lane's end.
+pub fn moves_law()
+    ensures joined { JoinedLaw }
+    ensures moves { MovesLaw }
 {}
 
 /// What a child shows, of what it took of a parent's two lanes, is the trace of one sequential

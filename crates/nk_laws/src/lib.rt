@@ -5,5 +5,6 @@
 mod laws;
 
 pub use laws::{
-    calm_law, ending_law, journal_law, lanes_law, merge_law, order_law, state_law, walk_law,
+    calm_law, ending_law, journal_law, lanes_law, merge_law, moves_law, order_law, state_law,
+    walk_law,
 };
