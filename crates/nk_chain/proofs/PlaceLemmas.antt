@@ -1,4 +1,4 @@
--- Lemmas on lists of items with places, for this crate and its callers: what stays at its place.
+-- Lemmas on lists of items with places: what stays at its place.
 use Rattle.std.proofs.Common.{◌≡◌, ◌≢◌, ℕ, List, [], ◌∷◌, ◌++◌, length, Some, None, refl, sym, ap, ◌∙◌, arith}
 use Rattle.std.proofs.lemmas.Bool.Decides.{nat_tests}
 use Rattle.nk_chain.specs.declared.Place.{Place}
@@ -36,17 +36,6 @@ module _ {T : Type 0} where
   live_differs items live absent is_live none same =
       let there = rw (place_of_key live absent same, none) at is_live in absurd (cc)
 
-  -- a live item stays where it is when one more is pushed behind
-  pub item_at-append : (items : List (Place × T)) (new : Place × T) (place : Place) → IsLive items place → item_at (items ++ new ∷ []) place ≡ item_at items place
-  item_at-append [] new place live = absurd (cc)
-  item_at-append (e ∷ rest) new place live = grind (arith, nat_tests, item_at-append rest new place)
-
-  -- the pushed item stands at its place
-  pub item_at-pushed : (items : List (Place × T)) (new : Place × T) → item_at items new.0 ≡ None → item_at (items ++ new ∷ []) new.0 ≡ Some new.1
-  item_at-pushed [] new absent = item_at-own new []
-  item_at-pushed (e ∷ rest) new absent =
-      item_at-other e (rest ++ new ∷ []) new.0 (absent_differs e rest new.0 absent) ∙ item_at-pushed rest new (absent_later e rest new.0 absent)
-
   -- no other place gets an item
   pub absent_behind : (items : List (Place × T)) (new : Place × T) (place : Place) → item_at items place ≡ None → place.0 ≢ new.0.0 → item_at (items ++ new ∷ []) place ≡ None
   absent_behind [] new place absent differs = item_at-other new [] place (λ same. differs (sym same))
@@ -54,11 +43,7 @@ module _ {T : Type 0} where
       item_at-other e (rest ++ new ∷ []) place (absent_differs e rest place absent)
       ∙ absent_behind rest new place (absent_later e rest place absent) differs
 
-  -- a write at a place is read there, and changes no other item, no place and no order
-  pub item_at-with_item : (items : List (Place × T)) (place : Place) (item : T) → IsLive items place → item_at (with_item items place item) place ≡ Some item
-  item_at-with_item [] place item live = absurd (cc)
-  item_at-with_item (e ∷ rest) place item live = grind (arith, nat_tests, item_at-with_item rest place item)
-
+  -- a write at a place changes no other item, no place and no order
   pub item_at-with_item_elsewhere : (items : List (Place × T)) (place other : Place) (item : T) → place.0 ≢ other.0 → item_at (with_item items place item) other ≡ item_at items other
   item_at-with_item_elsewhere [] place other item differs = refl
   item_at-with_item_elsewhere (e ∷ rest) place other item differs = grind (arith, nat_tests, item_at-with_item_elsewhere rest place other item)
@@ -66,11 +51,6 @@ module _ {T : Type 0} where
   pub first_place-with_item : (items : List (Place × T)) (place : Place) (item : T) → first_place (with_item items place item) ≡ first_place items
   first_place-with_item [] place item = refl
   first_place-with_item (e ∷ rest) place item = grind (arith, nat_tests)
-
-  pub place_after-with_item : (items : List (Place × T)) (place other : Place) (item : T) → place_after (with_item items place item) other ≡ place_after items other
-  place_after-with_item [] place other item = refl
-  place_after-with_item (e ∷ rest) place other item =
-      grind (arith, nat_tests, place_after-with_item rest place other item, first_place-with_item rest place item)
 
   pub length-with_item : (items : List (Place × T)) (place : Place) (item : T) → length (with_item items place item) ≡ length items
   length-with_item [] place item = refl

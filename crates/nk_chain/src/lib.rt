@@ -93,6 +93,7 @@ impl<T> Chain<T> {
         requires { 0 < self.old.spare }
         ensures fresh { item_at self.old.items result ≡ None }
         ensures items { self.new.items ≡ self.old.items ++ (result, item) ∷ [] }
+        ensures distinct { PlacesDiffer self.new.items }
         ensures spare { self.new.spare ≡ self.old.spare - 1 }
     {
         let place = Place(
@@ -116,6 +117,7 @@ impl<T> Chain<T> {
         requires { 0 < self.old.spare }
         ensures fresh { item_at self.old.items result ≡ None }
         ensures items { self.new.items ≡ (result, item) ∷ self.old.items }
+        ensures distinct { PlacesDiffer self.new.items }
         ensures spare { self.new.spare ≡ self.old.spare - 1 }
     {
         let place = Place(

@@ -1,3 +1,2 @@
 pub mod SegmentLemmas
 pub mod Onward
-pub mod Places

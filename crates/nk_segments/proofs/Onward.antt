@@ -3,7 +3,6 @@ use Rattle.std.proofs.Common.{◌≡◌, ◌≢◌, ◌<◌, ◌==◌, Bool, tru
 use Rattle.std.proofs.lemmas.Bool.Decides.{nat_tests}
 use Rattle.nk_chain.specs.declared.Place.{Place}
 use Rattle.nk_chain.specs.Chain.{first_place, item_at, place_after, IsLive, PlacesDiffer}
-use Rattle.nk_chain.proofs.PlaceLemmas.{live_differs, live_later, item_at-own}
 use Rattle.nk_segments.specs.Segments.{Segment, changed_all, changed_at, changed_from, since, AreBelowEight, AreHeld}
 use Rattle.nk_segments.proofs.SegmentLemmas.{item_at-changed_absent}
 
@@ -26,6 +25,14 @@ abbrev IsAway : Place → Option Place → Type 0
 IsAway place None = Unit {0}
 IsAway place (Some q) = place.0 ≢ q.0
 
+live_later : (e : Place × Segment) (rest : List (Place × Segment)) (q : Place) → IsLive rest q → IsLive (e ∷ rest) q
+live_later e rest q live = grind (arith, nat_tests)
+
+-- a live place and one with no item differ
+live_differs : (items : List (Place × Segment)) (live absent : Place) → IsLive items live → item_at items absent ≡ None → live.0 ≢ absent.0
+live_differs [] live absent is none = absurd (cc)
+live_differs (e ∷ rest) live absent is none = grind (arith, nat_tests, is, none, live_differs rest live absent)
+
 since-own : (e : Place × Segment) (rest : List (Place × Segment)) → since (e ∷ rest) e.0 ≡ e ∷ rest
 since-own e rest = grind (arith, nat_tests)
 
@@ -40,7 +47,7 @@ from-other f e rest q differs = grind (arith, nat_tests)
 
 first_live : (items : List (Place × Segment)) (q : Place) → first_place items ≡ Some q → IsLive items q
 first_live [] q is = absurd (cc)
-first_live (e ∷ rest) q is = let own = item_at-own e rest in let same : e.0 ≡ q = cc in rw (← same, own) refl
+first_live (e ∷ rest) q is = let same : e.0 ≡ q = cc in rw (← same) (grind (arith, nat_tests))
 
 pub after_live : (items : List (Place × Segment)) (p q : Place) → place_after items p ≡ Some q → IsLive items q
 after_live [] p q is = absurd (cc)

@@ -4,7 +4,6 @@ use Rattle.std.proofs.lemmas.Bool.Decides.{nat_tests}
 use Rattle.std.proofs.lemmas.List.{length-append, length-take, length-drop, length-replicate}
 use Rattle.nk_chain.specs.declared.Place.{Place}
 use Rattle.nk_chain.specs.Chain.{item_at, with_item, PlacesDiffer}
-use Rattle.nk_chain.proofs.PlaceLemmas.{absent_behind, absent_differs, absent_later}
 use Rattle.nk_segments.specs.Segments.{Segment, raised, lowered, overwritten, with_bytes, changed_all, changed_at, changed_from, since, needed, AreBelowEight, AreSegments}
 
 -- a write of a segment at its place is a change at that place
@@ -25,28 +24,17 @@ pub item_at-from_absent : (f : Segment → Segment) (items : List (Place × Segm
 item_at-from_absent f [] place other absent = refl
 item_at-from_absent f (e ∷ rest) place other absent = grind (arith, nat_tests, item_at-from_absent f rest place other, item_at-all_absent f rest other)
 
-pub item_at-needed_absent : (items : List (Place × Segment)) (other : Place) → item_at items other ≡ None → item_at (needed items) other ≡ None
-item_at-needed_absent [] other absent = refl
-item_at-needed_absent (e ∷ rest) other absent = grind (arith, nat_tests, item_at-needed_absent rest other)
-
-pub segments_differ : (size : ℕ) (items : List (Place × Segment)) → AreSegments size items → PlacesDiffer items
-segments_differ size [] are = tt
-segments_differ size (e ∷ rest) are = (are.2, segments_differ size rest are.3)
-
 -- what is kept are segments still
 pub segments-needed : (size : ℕ) (items : List (Place × Segment)) → AreSegments size items → AreSegments size (needed items)
 segments-needed size [] are = tt
 segments-needed size (e ∷ rest) are = grind (arith, nat_tests, segments-needed size rest)
 
--- with a new one behind they are segments still
-pub segments-added : (size : ℕ) (items : List (Place × Segment)) (place : Place) (readers : ℕ) → readers ≤ 8 → item_at items place ≡ None → AreSegments size items → AreSegments size (items ++ (place, record { bytes = replicate size 0; readers = readers }) ∷ [])
-segments-added size [] place readers few fresh are = (length-replicate size 0, few, refl, tt)
-segments-added size (e ∷ rest) place readers few fresh are = (
-  are.0,
-  are.1,
-  absent_behind rest (place, record { bytes = replicate size 0; readers = readers }) e.0 are.2 (absent_differs e rest place fresh),
-  segments-added size rest place readers few (absent_later e rest place fresh) are.3,
-)
+-- with a new one behind, at a place of its own, they are segments still
+pub segments-added : (size : ℕ) (items : List (Place × Segment)) (place : Place) (readers : ℕ) → readers ≤ 8 → PlacesDiffer (items ++ (place, record { bytes = replicate size 0; readers = readers }) ∷ []) → AreSegments size items
+    → AreSegments size (items ++ (place, record { bytes = replicate size 0; readers = readers }) ∷ [])
+segments-added size [] place readers few distinct are = (length-replicate size 0, few, refl, tt)
+segments-added size (e ∷ rest) place readers few distinct are =
+    (are.0, are.1, distinct.0, segments-added size rest place readers few distinct.1 are.3)
 
 -- a write within a list keeps its length
 pub length-overwritten : (old : List ℕ) (at : ℕ) (new : List ℕ) → at + length new ≤ length old → length (overwritten old at new) ≡ length old

@@ -51,6 +51,7 @@ impl Segments {
         ensures added { IfOk result (λ p. self.new ≡ record self.old {
           segments = self.old.segments ++ (p, record { bytes = replicate self.old.size 0; readers = readers }) ∷ [];
         }) }
+        ensures told { AreSegments self.new.size self.new.segments }
         ensures err { OnErr result (self.new ≡ self.old) }
     {
         let segment = Segment::new(self.alloc, self.size, readers)?;
@@ -64,9 +65,10 @@ impl Segments {
     pub fn put(&mut self, place: Place, at: u32, bytes: &[u8])
         requires live { IsLive self.old.segments place }
         requires fits { at + length bytes.now ≤ self.old.size }
-        ensures { self.new ≡ record self.old {
+        ensures put { self.new ≡ record self.old {
           segments = changed_at (with_bytes at bytes.now) self.old.segments place;
         } }
+        ensures told { AreSegments self.new.size self.new.segments }
     {
         self.chain.get_mut(place).put(at, bytes);
     }
@@ -93,7 +95,8 @@ impl Segments {
     pub fn hold(&mut self, place: Place)
         requires live { IsLive self.old.segments place }
         requires below { AreBelowEight (since self.old.segments place) }
-        ensures { self.new ≡ record self.old { segments = changed_from raised self.old.segments place } }
+        ensures raised { self.new ≡ record self.old { segments = changed_from raised self.old.segments place } }
+        ensures told { AreSegments self.new.size self.new.segments }
     {
         raise_from(&mut self.chain, place);
     }
@@ -103,7 +106,8 @@ impl Segments {
     pub fn leave(&mut self, place: Place)
         requires live { IsLive self.old.segments place }
         requires held { IfSome (item_at self.old.segments place) (λ s. 0 < s.readers) }
-        ensures { self.new ≡ record self.old { segments = needed (changed_at lowered self.old.segments place) } }
+        ensures kept { self.new ≡ record self.old { segments = needed (changed_at lowered self.old.segments place) } }
+        ensures told { AreSegments self.new.size self.new.segments }
     {
         self.chain.get_mut(place).lower();
         give_back(&mut self.chain);
@@ -114,9 +118,10 @@ impl Segments {
     pub fn release(&mut self, place: Place)
         requires live { IsLive self.old.segments place }
         requires held { AreHeld (since self.old.segments place) }
-        ensures { self.new ≡ record self.old {
+        ensures kept { self.new ≡ record self.old {
           segments = needed (changed_from lowered self.old.segments place);
         } }
+        ensures told { AreSegments self.new.size self.new.segments }
     {
         lower_from(&mut self.chain, place);
         give_back(&mut self.chain);

@@ -2,7 +2,7 @@ use Rattle.std.proofs.Common.{◌≡◌, ◌-◌, [], ◌∷◌, ◌++◌, Some,
 use Rattle.nk_chain.specs.declared.Place.{Place}
 use Rattle.nk_chain.specs.Chain.{Chain, item_at}
 use Rattle.nk_chain.specs.Links.{IsChain, listed}
-use Rattle.nk_chain.proofs.LinkLemmas.{Inserts, chain_vacant, chain_listed, listed-chain, one_behind, more_behind, last_contained}
+use Rattle.nk_chain.proofs.LinkLemmas.{Inserts, chain_vacant, chain_listed, chain_places_differ, listed-chain, one_behind, more_behind, last_contained}
 use Rattle.nk_chain.proofs.Chain.push_back.Goals as goal
 use Rattle.nk_chain.proofs.Chain.push_back.Goals.{in-Some, in-None}
 
@@ -42,6 +42,9 @@ returns-clause-fresh g c =
 pub returns-clause-items : goal.returns-clause-items
 returns-clause-items g c =
     listed-chain (pushed g c) ∙ ap (λ (v : Chain g.row.T.Denot). v.items ++ (place g c, c.args.item) ∷ []) c.self.view_is
+
+pub returns-clause-distinct : goal.returns-clause-distinct
+returns-clause-distinct g c = chain_places_differ (chain_listed (pushed g c))
 
 pub returns-clause-spare : goal.returns-clause-spare
 returns-clause-spare g c = ap (λ n. n - 1) (spare_kept g c ∙ ap (λ (v : Chain g.row.T.Denot). v.spare) c.self.view_is)

@@ -6,3 +6,6 @@ pub invariant_of-self : goal.invariant_of-self
 invariant_of-self c =
     rw c.raise_from.ensures.items
     (segments-raised_from c.self.inside.size c.self.inside.chain.items c.args.place (rw (← c.self.view_is) at c.requires.below) c.self.invariant)
+
+pub returns-clause-told : goal.returns-clause-told
+returns-clause-told c = invariant_of-self c

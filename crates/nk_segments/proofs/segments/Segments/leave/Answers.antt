@@ -15,6 +15,9 @@ pub invariant_of-self : goal.invariant_of-self
 invariant_of-self c =
     rw (kept c) (segments-needed c.self.inside.size _ (segments-lowered_at c.self.inside.size c.self.inside.chain.items c.args.place c.self.invariant))
 
-pub returns : goal.returns
-returns c =
+pub returns-clause-kept : goal.returns-clause-kept
+returns-clause-kept c =
     rw (← c.self.view_is) (ap (λ xs. record { size = c.self.inside.size; segments = xs }) (kept c))
+
+pub returns-clause-told : goal.returns-clause-told
+returns-clause-told c = invariant_of-self c

@@ -16,7 +16,10 @@ invariant_of-self c =
     rw (c.put.ensures, with_item-changed (with_bytes c.args.at c.args.bytes.now) _ _ _ c.get_mut.ensures.value)
     (segments-put c.self.inside.size c.args.at c.args.bytes.now c.self.inside.chain.items c.args.place (omega (arith, same, c.requires.fits)) c.self.invariant)
 
-pub returns : goal.returns
-returns c =
+pub returns-clause-put : goal.returns-clause-put
+returns-clause-put c =
     rw (c.put.ensures, ← c.self.view_is)
     (ap (λ xs. record { size = c.self.inside.size; segments = xs }) (with_item-changed (with_bytes c.args.at c.args.bytes.now) c.self.inside.chain.items c.args.place c.get_mut.result.now c.get_mut.ensures.value))
+
+pub returns-clause-told : goal.returns-clause-told
+returns-clause-told c = invariant_of-self c
