@@ -5,7 +5,6 @@ use Rattle.std.proofs.lemmas.Bool.Decides.{nat_tests}
 use Rattle.nk_base.specs.declared.status.Status.{Status}
 use Rattle.nk_segments.specs.Places.{Place}
 use Rattle.nk_segments.specs.Segments.{Segment, raised, lowered, changed_from, AreSegments}
-use Rattle.nk_segments.proofs.SegmentLemmas.{segments-lowered_from, segments-raised_from}
 use Rattle.nk_pipe.specs.declared.answer.CloneError.TheVariants as clone
 use Rattle.nk_pipe.specs.declared.cursor.Cursor.{Cursor}
 use Rattle.nk_pipe.specs.declared.reader.Reader.{Reader as Tracked}
@@ -13,6 +12,7 @@ use Rattle.nk_pipe.specs.Pipe.{has_open, first_close, clone_open}
 use Rattle.nk_pipe.specs.Laid.{seen, all_seen, joined, standing, HeldAt, released_at, MayHoldAt, held_at}
 use Rattle.nk_pipe.proofs.CursorLemmas.{IsEnd, at_live, cursor_end}
 use Rattle.nk_pipe.proofs.CountLemmas.{one_before, before_no, counted_closed, counted_held, counted_end, below_since, standing-set, standing-append, standing_few}
+use Rattle.nk_pipe.proofs.FreeLemmas.{sized, sized-from}
 use Rattle.nk_pipe.proofs.ReaderLemmas.{seen-set, seen-append, seen_get, length_seen}
 use Rattle.nk_pipe.proofs.LaidLemmas.{Loses, loses_needed, loses_none, placed_set, placed_append, placed_same, reader_at_place, cursor-from, joined-from, stands_open}
 use Rattle.nk_pipe.proofs.PipeLemmas.{Reading, held}
@@ -37,7 +37,7 @@ closed_at size from written ahead segments readers writer i r status None are re
     let laid = reading.laid in
     let end : IsEnd size from segments r.position = cursor_end size from segments r.position r.cursor.offset (sym reading.placed.2 ∙ ap (λ (p : Option Place). let c : Cursor = record { place = p; offset = r.cursor.offset } in c) place) in
     let closes = closes_by readers i r status reading.get reading.opens in
-    loses_none size from written ahead segments _ writer are
+    loses_none size from written ahead segments _ writer
     (λ _. record {
       ends = laid.ends;
       starts = laid.starts;
@@ -49,7 +49,7 @@ closed_at size from written ahead segments readers writer i r status (Some p) ar
     let laid = reading.laid in
     let at = reader_at_place size from written segments r p reading.placed place in
     let same = cursor-from size lowered from segments p in
-    loses_needed size from written ahead segments (changed_from lowered segments p) _ writer (segments-lowered_from size segments p are) (joined-from lowered (λ s. refl) segments p)
+    loses_needed size from written ahead segments (changed_from lowered segments p) _ writer (sized-from size lowered (λ s. refl) segments p (sized size segments are)) (joined-from lowered (λ s. refl) segments p)
     (λ _. record {
       ends = rw (joined-from lowered (λ s. refl) segments p) laid.ends;
       starts = laid.starts;
@@ -93,7 +93,7 @@ cloned_at : (size from written ahead : ℕ) (segments : List (Place × Segment))
 cloned_at size from written ahead segments readers writer i r None are reading few place may =
     let laid = reading.laid in
     let end : IsEnd size from segments r.position = cursor_end size from segments r.position r.cursor.offset (sym reading.placed.2 ∙ ap (λ (p : Option Place). let c : Cursor = record { place = p; offset = r.cursor.offset } in c) place) in
-    loses_none size from written ahead segments _ writer are
+    loses_none size from written ahead segments _ writer
     (λ _. record {
       ends = laid.ends;
       starts = laid.starts;
@@ -116,7 +116,6 @@ cloned_at size from written ahead segments readers writer i r (Some p) are readi
         writes = laid.writes ∙ sym (same written);
       });
       joined = joined-from raised (λ s. refl) segments p;
-      are = segments-raised_from size segments p may.1 are;
     }
 
 -- a reader is cloned

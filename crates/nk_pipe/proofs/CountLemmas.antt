@@ -3,10 +3,10 @@ use Rattle.std.proofs.Common.{◌≡◌, ◌≢◌, ℕ, zero, suc, ◌+◌, ◌
 use Rattle.std.specs.Prelude.{nat_lt, slice_get, slice_set}
 use Rattle.std.proofs.lemmas.Bool.Decides.{nat_tests}
 use Rattle.nk_segments.specs.Places.{Place, item_at}
-use Rattle.nk_segments.proofs.Places.{live_differs}
 use Rattle.nk_segments.specs.Segments.{Segment, raised, lowered, changed_all, changed_at, changed_from, since, AreBelowEight, AreHeld, AreSegments}
 use Rattle.nk_pipe.specs.Pipe.{Reader, is_open}
 use Rattle.nk_pipe.specs.Laid.{AreCounted, standing, stands_before}
+use Rattle.nk_pipe.proofs.Places.{live_differs}
 use Rattle.nk_pipe.proofs.CursorLemmas.{IsAt, IsEnd, at_live}
 
 -- one reader of this position stands before x, or none

@@ -4,10 +4,10 @@ use Rattle.std.proofs.lemmas.List.{length-append, length-drop, drop-append-le, t
 use Rattle.std.proofs.lemmas.Bool.Decides.{nat_tests}
 use Rattle.std.proofs.lemmas.Grind.{common_steps}
 use Rattle.nk_segments.specs.Places.{Place, first_place, item_at, place_after, IsLive}
-use Rattle.nk_segments.proofs.Places.{live_differs, live_later, item_at-own, item_at-other, place_after-own, place_after-other}
 use Rattle.nk_segments.specs.Segments.{Segment, AreSegments}
 use Rattle.nk_pipe.specs.declared.cursor.Cursor.{Cursor}
 use Rattle.nk_pipe.specs.Laid.{joined, cursor_over}
+use Rattle.nk_pipe.proofs.Places.{live_differs, live_later, item_at-own, item_at-other, place_after-own, place_after-other}
 
 module _ (size : ℕ) where
   -- the byte of a position stands in the segment at a place, at an offset

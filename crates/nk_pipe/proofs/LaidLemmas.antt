@@ -5,14 +5,13 @@ use Rattle.std.proofs.lemmas.Bool.Decides.{nat_tests}
 use Rattle.nk_base.specs.declared.status.Status.{Status}
 use Rattle.nk_segments.specs.Places.{Place, place_after}
 use Rattle.nk_segments.specs.Segments.{Segment, lowered, changed_all, changed_at, changed_from, needed, AreSegments}
-use Rattle.nk_segments.proofs.SegmentLemmas.{segments-lowered_at, segments-needed}
 use Rattle.nk_pipe.specs.declared.cursor.Cursor.{Cursor}
 use Rattle.nk_pipe.specs.declared.reader.Reader.{Reader as Tracked}
 use Rattle.nk_pipe.specs.Pipe.{is_open, has_open}
 use Rattle.nk_pipe.specs.Laid.{seen, all_seen, joined, cursor_over, cursor_in, left_at, stands_before, standing, AreCounted, IsPlaced, ArePlaced, IsLaid}
 use Rattle.nk_pipe.proofs.CursorLemmas.{IsAt, bound, at_cursor, cursor_at, at_within, at_next}
 use Rattle.nk_pipe.proofs.CountLemmas.{one_before, counted_within, counted_left, standing-set, before_yes}
-use Rattle.nk_pipe.proofs.FreeLemmas.{front, front_behind, front_ends, front_counted, front_reached, front_cursor, front_joined}
+use Rattle.nk_pipe.proofs.FreeLemmas.{AreSized, sized, sized-at, front, front_behind, front_ends, front_counted, front_reached, front_cursor, front_joined}
 use Rattle.nk_pipe.proofs.ReaderLemmas.{seen-set, seen_get}
 
 -- what a change of segments that moves none and keeps their bytes leaves
@@ -92,7 +91,6 @@ pub record Loses (size from : ℕ) (segments segments' : List (Place × Segment)
   pub lost : ℕ
   pub laid : has_open (all_seen readers) ≡ true → IsLaid size (from + lost) segments' readers writer written ahead
   pub joined : joined segments' ≡ drop lost (joined segments)
-  pub are : AreSegments size segments'
 
 before_one : (x : ℕ) (r : Tracked) (rs : List Tracked) → standing (all_seen (r ∷ rs)) x ≡ stands_before x (seen r) + standing (all_seen rs) x
 before_one x r rs = refl
@@ -132,7 +130,7 @@ has_open-set (s ∷ rs) zero r r' is opens = rw opens refl
 has_open-set (s ∷ rs) (suc i) r r' is opens = let later = has_open-set rs i r r' is opens in grind (arith, later)
 
 -- a segment at the front that is counted for no open reader may be given back
-freed : (size from written ahead : ℕ) (segments : List (Place × Segment)) (readers : List Tracked) (writer : Cursor) → AreSegments size segments → IsLaid size from segments readers writer written ahead
+freed : (size from written ahead : ℕ) (segments : List (Place × Segment)) (readers : List Tracked) (writer : Cursor) → AreSized size segments → IsLaid size from segments readers writer written ahead
     → has_open (all_seen readers) ≡ true → IsLaid size (front size from segments) (needed segments) readers writer written ahead
 freed size from written ahead segments readers writer are laid opens =
     let reached : front size from segments ≤ written = front_reached size from segments (standing (all_seen readers)) written (λ x h. open_standing size from written segments readers x laid.placed h opens) laid.starts laid.counted in
@@ -144,7 +142,7 @@ freed size from written ahead segments readers writer are laid opens =
       writes = laid.writes ∙ sym (front_cursor size from segments written reached);
     }
 
-pub loses_needed : (size from written ahead : ℕ) (segments segments' : List (Place × Segment)) (readers : List Tracked) (writer : Cursor) → AreSegments size segments' → joined segments' ≡ joined segments
+pub loses_needed : (size from written ahead : ℕ) (segments segments' : List (Place × Segment)) (readers : List Tracked) (writer : Cursor) → AreSized size segments' → joined segments' ≡ joined segments
     → (has_open (all_seen readers) ≡ true → IsLaid size from segments' readers writer written ahead) → Loses size from segments (needed segments') readers writer written ahead
 loses_needed size from written ahead segments segments' readers writer are same laid =
     let there : from + (front size from segments' - from) ≡ front size from segments' = omega (arith, front_behind size from segments') in
@@ -152,14 +150,13 @@ loses_needed size from written ahead segments segments' readers writer are same 
       lost = front size from segments' - from;
       laid = λ opens. rw there (freed size from written ahead segments' readers writer are (laid opens) opens);
       joined = front_joined size from segments' are ∙ ap (drop (front size from segments' - from)) same;
-      are = segments-needed size segments' are;
     }
 
-pub loses_none : (size from written ahead : ℕ) (segments : List (Place × Segment)) (readers : List Tracked) (writer : Cursor) → AreSegments size segments
+pub loses_none : (size from written ahead : ℕ) (segments : List (Place × Segment)) (readers : List Tracked) (writer : Cursor)
     → (has_open (all_seen readers) ≡ true → IsLaid size from segments readers writer written ahead) → Loses size from segments segments readers writer written ahead
-loses_none size from written ahead segments readers writer are laid =
+loses_none size from written ahead segments readers writer laid =
     let there : from + 0 ≡ from = omega arith in
-    record { lost = 0; laid = λ opens. rw there (laid opens); joined = refl; are = are }
+    record { lost = 0; laid = λ opens. rw there (laid opens); joined = refl }
 
 -- a reader some bytes on
 abbrev pub stepped : ℕ → List (Place × Segment) → Tracked → Place → ℕ → Tracked
@@ -222,11 +219,11 @@ taken_test : (size from written ahead : ℕ) (segments : List (Place × Segment)
     → Loses size from segments (left_at size segments place (r.cursor.offset + n)) (slice_set readers i (stepped size segments r place n)) writer written ahead
 taken_test size from written ahead segments readers writer i r place n some are laid get opens at fits within left (inl below) =
     let test : nat_lt (r.cursor.offset + n) size ≡ true = grind (arith, nat_tests) in
-    rw test (loses_none size from written ahead segments _ writer are (λ _. taken_within size from written ahead segments readers writer i r place n laid get opens at below within left))
+    rw test (loses_none size from written ahead segments _ writer (λ _. taken_within size from written ahead segments readers writer i r place n laid get opens at below within left))
 taken_test size from written ahead segments readers writer i r place n some are laid get opens at fits within left (inr full) =
     let test : nat_lt (r.cursor.offset + n) size ≡ false = grind (arith, nat_tests) in
     let ends : r.cursor.offset + n ≡ size = omega (arith, fits, full) in
-    rw test (loses_needed size from written ahead segments (changed_at lowered segments place) _ writer (segments-lowered_at size segments place are) (joined-at lowered (λ s. refl) segments place)
+    rw test (loses_needed size from written ahead segments (changed_at lowered segments place) _ writer (sized-at size lowered (λ s. refl) segments place (sized size segments are)) (joined-at lowered (λ s. refl) segments place)
     (λ _. taken_past size from written ahead segments readers writer i r place n some are laid get opens at ends within left))
 
 -- a reader has taken some bytes of its segment

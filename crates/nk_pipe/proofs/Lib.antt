@@ -1,3 +1,4 @@
+pub mod Places
 pub mod CursorLemmas
 pub mod CountLemmas
 pub mod FreeLemmas

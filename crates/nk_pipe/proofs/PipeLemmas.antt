@@ -7,7 +7,6 @@ use Rattle.std.proofs.lemmas.Bool.Decides.{nat_tests}
 use Rattle.nk_base.specs.declared.status.Status.{Status}
 use Rattle.nk_segments.specs.Places.{Place, item_at, IsLive}
 use Rattle.nk_segments.specs.Segments.{Segment, Segments, AreSegments, AreHeld, since, changed_at}
-use Rattle.nk_segments.proofs.Onward.{held_here}
 use Rattle.nk_pipe.specs.declared.cursor.Cursor.{Cursor}
 use Rattle.nk_pipe.specs.declared.reader.Reader.{Reader as Tracked}
 use Rattle.nk_pipe.specs.Pipe.{has_open}
@@ -55,15 +54,15 @@ forgotten written ahead lost segments segments' fits is =
 
 -- what the type keeps is kept
 pub pipe_after : (size limit written ahead : ℕ) (segments : Segments) (segments' : List (Place × Segment)) (readers readers' : List Tracked) (writer : Cursor) (closed closed' : Option Status)
-    → IsPipe size limit segments readers writer written ahead closed → Loses size (past segments.segments written ahead) segments.segments segments' readers' writer written ahead
+    → IsPipe size limit segments readers writer written ahead closed → AreSegments segments.size segments' → Loses size (past segments.segments written ahead) segments.segments segments' readers' writer written ahead
     → length readers' ≤ 8 → (closed' ≡ None → has_open (all_seen readers') ≡ true) → IsPipe size limit (record { size = segments.size; segments = segments' }) readers' writer written ahead closed'
-pipe_after size limit written ahead segments segments' readers readers' writer closed closed' is loses few told = record {
+pipe_after size limit written ahead segments segments' readers readers' writer closed closed' is are loses few told = record {
   least = is.least;
   most = is.most;
   least_limit = is.least_limit;
   most_limit = is.most_limit;
   sized = is.sized;
-  are = loses.are;
+  are = rw is.sized at are;
   few = few;
   fits = omega (arith, is.fits, ap (λ (xs : List ℕ). length xs) loses.joined, length-drop loses.lost (joined segments.segments));
   laid = λ opens. let laid = loses.laid opens in rw (past_is size _ written ahead segments' readers' writer laid) laid;
@@ -125,6 +124,11 @@ held size from written ahead segments readers writer i r place reading are stand
     let at = reader_at_place size from written segments r place reading.placed stands in
     held_since size from segments r.position place r.cursor.offset (standing (all_seen readers)) are at
     (λ x h. standing_some (all_seen readers) i x (seen r) (seen_get readers i r reading.get) (rw reading.opens refl) h) laid.counted
+
+-- the segment at a place is the first of those from it on
+held_here : (segments : List (Place × Segment)) (place : Place) (s : Segment) → item_at segments place ≡ Some s → AreHeld (since segments place) → 0 < s.readers
+held_here [] place s at held = absurd (cc)
+held_here (e ∷ rest) place s at held = grind (arith, nat_tests, at, held, held_here rest place s)
 
 if_held : (segments : List (Place × Segment)) (place : Place) (o : Option Segment) → item_at segments place ≡ o → AreHeld (since segments place) → IfSome o (λ s. 0 < s.readers)
 if_held segments place None is held = tt

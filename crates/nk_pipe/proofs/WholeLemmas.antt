@@ -3,7 +3,6 @@ use Rattle.std.proofs.Common.{◌≡◌, ℕ, ◌+◌, ◌-◌, ◌≤◌, true,
 use Rattle.nk_base.specs.declared.status.Status.{Status}
 use Rattle.nk_segments.specs.Places.{Place}
 use Rattle.nk_segments.specs.Segments.{Segment, Segments, with_bytes, changed_at, AreSegments}
-use Rattle.nk_segments.proofs.SegmentLemmas.{segments-put}
 use Rattle.nk_pipe.specs.declared.cursor.Cursor.{Cursor}
 use Rattle.nk_pipe.specs.declared.reader.Reader.{Reader as Tracked}
 use Rattle.nk_pipe.specs.Pipe.{has_open}
@@ -20,12 +19,13 @@ pub record Puts (size limit written ahead : ℕ) (segments : Segments) (place : 
   pub bytes : kept_bytes (changed_at (with_bytes offset new) segments.segments place) (ahead - n) ≡ kept_bytes segments.segments ahead ++ new
 
 pub puts : (size limit written ahead : ℕ) (segments : Segments) (place : Place) (offset n : ℕ) (new : List ℕ) (readers : List Tracked) (writer : Cursor) (closed : Option Status) → IsPipe size limit segments readers writer written ahead closed
-    → has_open (all_seen readers) ≡ true → IsAt size (past segments.segments written ahead) segments.segments written place offset → offset + n ≤ size → length new ≡ n → n ≤ ahead
+    → AreSegments segments.size (changed_at (with_bytes offset new) segments.segments place) → has_open (all_seen readers) ≡ true → IsAt size (past segments.segments written ahead) segments.segments written place offset → offset + n ≤ size → length new ≡ n → n ≤ ahead
     → Puts size limit written ahead segments place offset n new readers closed
-puts size limit written ahead segments place offset n new readers writer closed is opens at fits long room =
+puts size limit written ahead segments place offset n new readers writer closed is told opens at fits long room =
     let laid = is.laid opens in
+    let are = rw is.sized at told in
     let from = past segments.segments written ahead in
-    let after = put size (past segments.segments written ahead) written ahead segments.segments place offset n new readers writer is.are fits long room at laid in
+    let after = put size (past segments.segments written ahead) written ahead segments.segments place offset n new readers writer is.are are fits long room at laid in
     let same = past_is size (past segments.segments written ahead) (written + n) (ahead - n) (changed_at (with_bytes offset new) segments.segments place) readers _ after in
     record {
       pipe = record {
@@ -34,7 +34,7 @@ puts size limit written ahead segments place offset n new readers writer closed 
         least_limit = is.least_limit;
         most_limit = is.most_limit;
         sized = is.sized;
-        are = segments-put size offset new segments.segments place (omega (arith, fits, long)) is.are;
+        are = are;
         few = is.few;
         fits = omega (arith, after.ends, after.starts);
         laid = λ _. rw same after;
@@ -51,7 +51,7 @@ pub record Adds (size limit written ahead : ℕ) (segments : Segments) (segments
   pub bytes : kept_bytes segments' (ahead + size) ≡ kept_bytes segments.segments ahead
 
 pub adds : (size limit written ahead : ℕ) (segments : Segments) (place : Place) (s : Segment) (readers : List Tracked) (writer : Cursor) (closed : Option Status) → IsPipe size limit segments readers writer written ahead closed
-    → has_open (all_seen readers) ≡ true → AreSegments size (segments.segments ++ (place, s) ∷ []) → length s.bytes ≡ size → s.readers ≡ open_count (all_seen readers)
+    → has_open (all_seen readers) ≡ true → AreSegments segments.size (segments.segments ++ (place, s) ∷ []) → length s.bytes ≡ size → s.readers ≡ open_count (all_seen readers)
     → Adds size limit written ahead segments (segments.segments ++ (place, s) ∷ []) place readers writer closed
 adds size limit written ahead segments place s readers writer closed is opens are sized counts =
     let laid = is.laid opens in
@@ -64,7 +64,7 @@ adds size limit written ahead segments place s readers writer closed is opens ar
         least_limit = is.least_limit;
         most_limit = is.most_limit;
         sized = is.sized;
-        are = are;
+        are = rw is.sized at are;
         few = omega (arith, is.few, length_reaching place readers);
         fits = omega (arith, after.ends, after.starts);
         laid = λ _. rw same after;

@@ -1,20 +1,19 @@
 -- Lemmas on the writer: new segments behind the last one, and bytes put where it stands.
 use Rattle.std.proofs.Common.{◌≡◌, ◌≢◌, ℕ, suc, ◌+◌, ◌-◌, ◌*◌, ◌/◌, ◌<◌, ◌≤◌, ◌^◌, ◌⊎◌, inl, inr, Bool, true, false, ◌||◌, List, [], ◌∷◌, ◌++◌, length, take, drop, max, Option, Some, None, refl, sym, ap, ◌∙◌, arith, if◌then◌else◌}
 use Rattle.std.specs.Prelude.{nat_lt}
-use Rattle.std.proofs.lemmas.List.{length-append, length-take, append_assoc, drop-append-le, take-append-le, take_at}
+use Rattle.std.proofs.lemmas.List.{length-append, length-take, length-drop, append_assoc, drop-append-le, take-append-le, take_at}
 use Rattle.std.proofs.Math.Nat.{div-mul-le_self}
 use Rattle.std.proofs.lemmas.Nat.{mul-le}
 use Rattle.std.proofs.lemmas.Bool.Decides.{nat_tests}
 use Rattle.std.proofs.lemmas.Grind.{common_steps}
 use Rattle.nk_base.specs.declared.status.Status.{Status}
 use Rattle.nk_segments.specs.Places.{Place}
-use Rattle.nk_segments.proofs.Places.{live_differs}
 use Rattle.nk_segments.specs.Segments.{Segment, overwritten, with_bytes, changed_at, AreSegments}
-use Rattle.nk_segments.proofs.SegmentLemmas.{segments-put, length-overwritten}
 use Rattle.nk_pipe.specs.declared.cursor.Cursor.{Cursor}
 use Rattle.nk_pipe.specs.declared.reader.Reader.{Reader as Tracked}
 use Rattle.nk_pipe.specs.Pipe.{Reader, is_open, has_open, open_position, greatest}
 use Rattle.nk_pipe.specs.Laid.{all_seen, joined, kept_bytes, cursor_over, cursor_in, reaching, all_reaching, stands_before, standing, open_count, AreCounted, IsPlaced, ArePlaced, IsLaid}
+use Rattle.nk_pipe.proofs.Places.{live_differs}
 use Rattle.nk_pipe.proofs.CursorLemmas.{IsAt, bound, at_live, at_cursor, cursor_at, at_within, at_next, cursor_here, cursor_later, drop_past}
 use Rattle.nk_pipe.proofs.CountLemmas.{before_yes, changed_at-own, changed_at-other}
 use Rattle.nk_pipe.proofs.ReaderLemmas.{seen_reaching}
@@ -137,6 +136,11 @@ take_front [] ys n k is = let same : n ≡ k = omega (arith, is) in rw same refl
 take_front (x ∷ xs) ys n k is =
     let same : n ≡ suc (length xs + k) = omega (arith, is) in rw same (ap (λ zs. x ∷ zs) (take_front xs ys (length xs + k) k refl))
 
+-- a write within a list keeps its length
+length-overwritten : (old : List ℕ) (at : ℕ) (new : List ℕ) → at + length new ≤ length old → length (overwritten old at new) ≡ length old
+length-overwritten old at new fits =
+    omega (arith, length-append (take at old) (new ++ drop (at + length new) old), length-append new (drop (at + length new) old), length-take at old, length-drop (at + length new) old)
+
 overwritten_in : (xs ys new : List ℕ) (at : ℕ) → at + length new ≤ length xs → overwritten xs at new ++ ys ≡ overwritten (xs ++ ys) at new
 overwritten_in xs ys new at fits =
     let a : at ≤ length xs = omega (arith, fits) in
@@ -183,12 +187,11 @@ moved_by size from segments position place offset n are fits at (inr full) =
     let test : nat_lt (offset + n) size ≡ false = grind (arith, nat_tests) in
     rw test (sym (at_next size from segments position place offset n (omega (arith, fits, full)) are at))
 
-pub put : (size from written ahead : ℕ) (segments : List (Place × Segment)) (place : Place) (offset n : ℕ) (new : List ℕ) (readers : List Tracked) (writer : Cursor) → AreSegments size segments → offset + n ≤ size → length new ≡ n → n ≤ ahead
-    → IsAt size from segments written place offset → IsLaid size from segments readers writer written ahead
+pub put : (size from written ahead : ℕ) (segments : List (Place × Segment)) (place : Place) (offset n : ℕ) (new : List ℕ) (readers : List Tracked) (writer : Cursor) → AreSegments size segments → AreSegments size (changed_at (with_bytes offset new) segments place)
+    → offset + n ≤ size → length new ≡ n → n ≤ ahead → IsAt size from segments written place offset → IsLaid size from segments readers writer written ahead
     → IsLaid size from (changed_at (with_bytes offset new) segments place) readers (cursor_in size (changed_at (with_bytes offset new) segments place) place (offset + n)) (written + n) (ahead - n)
-put size from written ahead segments place offset n new readers writer are fits long room at laid =
+put size from written ahead segments place offset n new readers writer are after fits long room at laid =
     let same = cursor-at size (with_bytes offset new) from segments place in
-    let after : AreSegments size (changed_at (with_bytes offset new) segments place) = segments-put size offset new segments place (omega (arith, fits, long)) are in
     let at' : IsAt size from (changed_at (with_bytes offset new) segments place) written place offset = cursor_at size from (changed_at (with_bytes offset new) segments place) written place offset laid.starts (same written ∙ at_cursor size from segments written place offset at) in
     let whole = at_put size from segments written place offset new (omega (arith, fits, long)) are at in
     let ends : written - from + length new ≤ length (joined segments) = omega (arith, laid.ends, laid.starts, room, long) in

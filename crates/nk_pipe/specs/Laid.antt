@@ -70,6 +70,10 @@ pub record IsLaid (size from : ℕ) (segments : List (Place × Segment)) (reader
   pub placed : ArePlaced size from written segments readers
   pub writes : writer ≡ cursor_over size from segments written
 
+-- what were segments are segments still
+abbrev pub KeepsSegments : Segments → Segments → Type 0
+KeepsSegments old new = AreSegments old.size old.segments → AreSegments new.size new.segments
+
 -- what the type keeps. Where no reader is open nothing is asked of the segments any more
 pub record IsPipe (segment limit : ℕ) (segments : Segments) (readers : List Tracked) (writer : Cursor) (written ahead : ℕ) (closed : Option Status) : Type 0 where
   pub least : 4 ≤ segment

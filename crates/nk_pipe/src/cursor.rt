@@ -13,7 +13,7 @@ pub(crate) struct Cursor {
 }
 
 impl Cursor {
-    ghost use Rattle.nk_pipe.specs.Laid.{cursor_in, left_at, reaching};
+    ghost use Rattle.nk_pipe.specs.Laid.{cursor_in, left_at, reaching, KeepsSegments};
 
     /// At this offset of a segment, or at the start of the next where that is the segment's end.
     pub(crate) fn within(segments: &Segments, place: Place, offset: u32, size: u32) -> Cursor
@@ -39,6 +39,7 @@ impl Cursor {
         requires held { IfSome (item_at segments.old.segments place) (λ s. 0 < s.readers) }
         ensures cursor { result ≡ cursor_in size segments.old.segments place offset }
         ensures segments { segments.new ≡ record segments.old { segments = left_at size segments.old.segments place offset } }
+        ensures told { KeepsSegments segments.old segments.new }
     {
         let cursor = Cursor::within(segments, place, offset, size);
         if size <= offset {

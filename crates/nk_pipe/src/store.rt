@@ -2,8 +2,8 @@
 
 ghost use Rattle.std.specs.Prelude.{◌≡◌, ◌+◌, ◌<◌, ◌≤◌, ◌++◌, IfSome, length, take, drop};
 ghost use Rattle.nk_segments.specs.Places.{IsLive, item_at};
-ghost use Rattle.nk_segments.specs.Segments.{changed_at, with_bytes};
-ghost use Rattle.nk_pipe.specs.Laid.{HeldAt, released_at, MayHoldAt, held_at};
+ghost use Rattle.nk_segments.specs.Segments.{changed_at, with_bytes, AreSegments};
+ghost use Rattle.nk_pipe.specs.Laid.{HeldAt, released_at, MayHoldAt, held_at, KeepsSegments};
 
 use nk_segments::{Place, Segments};
 
@@ -39,6 +39,7 @@ pub(crate) fn put_in(
     ensures most { result ≤ length bytes.now }
     ensures fits { offset + result ≤ size }
     ensures put { segments.new ≡ record segments.old { segments = changed_at (with_bytes offset (take result bytes.now)) segments.old.segments place } }
+    ensures told { AreSegments segments.new.size segments.new.segments }
 {
     let n = bytes.len().min((size - offset) as usize);
     segments.put(place, offset, &bytes[..n]);
@@ -48,7 +49,8 @@ pub(crate) fn put_in(
 /// A reader that stands at this place is closed.
 pub(crate) fn release(segments: &mut Segments, place: Option<Place>)
     requires { HeldAt segments.old.segments place }
-    ensures { segments.new ≡ record segments.old { segments = released_at segments.old.segments place } }
+    ensures released { segments.new ≡ record segments.old { segments = released_at segments.old.segments place } }
+    ensures told { KeepsSegments segments.old segments.new }
 {
     if let Some(place) = place {
         segments.release(place);
@@ -58,7 +60,8 @@ pub(crate) fn release(segments: &mut Segments, place: Option<Place>)
 /// One more reader stands at this place.
 pub(crate) fn hold(segments: &mut Segments, place: Option<Place>)
     requires { MayHoldAt segments.old.segments place }
-    ensures { segments.new ≡ record segments.old { segments = held_at segments.old.segments place } }
+    ensures held { segments.new ≡ record segments.old { segments = held_at segments.old.segments place } }
+    ensures told { KeepsSegments segments.old segments.new }
 {
     if let Some(place) = place {
         segments.hold(place);

@@ -49,8 +49,9 @@ invariant_of-self-2 c =
     let f = facts c.self.inside c.args.i c.index-reader.result.now c.self.invariant get c.in_default.is in
     let few : length c.self.inside.readers.items < 8 = omega (arith, c.self.inside.readers.ok.0) in
     let l = cloned_reader c.self.inside.segment _ c.self.inside.written c.self.inside.ahead c.self.inside.segments.segments c.self.inside.readers.items c.self.inside.writer c.args.i c.index-reader.result.now c.self.invariant.are f few in
-    rw (c.hold.ensures, pushed c)
-    (pipe_after c.self.inside.segment c.self.inside.limit c.self.inside.written c.self.inside.ahead c.self.inside.segments _ c.self.inside.readers.items _ c.self.inside.writer c.self.inside.closed c.self.inside.closed c.self.invariant l (omega (arith, few, length_push c.self.inside.readers.items (clone_reader c.index-reader.result.now)))
+    let are = rw c.hold.ensures.held at (c.hold.ensures.told (rw c.self.invariant.sized c.self.invariant.are)) in
+    rw (c.hold.ensures.held, pushed c)
+    (pipe_after c.self.inside.segment c.self.inside.limit c.self.inside.written c.self.inside.ahead c.self.inside.segments _ c.self.inside.readers.items _ c.self.inside.writer c.self.inside.closed c.self.inside.closed c.self.invariant are l (omega (arith, few, length_push c.self.inside.readers.items (clone_reader c.index-reader.result.now)))
     (λ _. has_open-append c.self.inside.readers.items (clone_reader c.index-reader.result.now) refl))
 
 pub returns : goal.returns
@@ -59,6 +60,6 @@ returns c =
     let few : length c.self.inside.readers.items < 8 = omega (arith, c.self.inside.readers.ok.0) in
     let made : c.len-made.result ≡ length (all_seen c.self.inside.readers.items) = omega (arith, c.len-made.ensures, length_seen c.self.inside.readers.items, c.self.inside.readers.ok.0) in
     rw (← c.self.view_is, seen_get c.self.inside.readers.items c.args.i c.index-reader.result.now get) (
-      rw (c.hold.ensures, pushed c, seen-append, joined-held) refl,
+      rw (c.hold.ensures.held, pushed c, seen-append, joined-held) refl,
       rw made (sym (may_clone c.index-reader.result.now.closed (length (all_seen c.self.inside.readers.items)) c.in_default.is (omega (arith, few, length_seen c.self.inside.readers.items)))),
     )

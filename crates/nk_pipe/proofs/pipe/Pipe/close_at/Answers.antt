@@ -42,8 +42,9 @@ invariant_of-self c =
     let f = facts c.self.inside c.args.i c.index-reader.result.now c.self.invariant (rw (← c.self.view_is) at c.requires) c.index-reader.ensures in
     let l = lost c.self.inside c.args.i c.index-reader.result.now c.kept_status.result c.self.invariant f in
     let r' : Tracked = closed_reader c.index-reader.result.now c.kept_status.result in
-    rw (c.release.ensures, c.close_of_reader-self-inside.ensures, c.any_open.ensures, c.deref.ensures.value)
-    (pipe_after c.self.inside.segment c.self.inside.limit c.self.inside.written c.self.inside.ahead c.self.inside.segments _ c.self.inside.readers.items _ c.self.inside.writer c.self.inside.closed _ c.self.invariant l (omega (arith, c.self.invariant.few, length-slice_set c.self.inside.readers.items c.args.i r'))
+    let are = rw c.release.ensures.released at (c.release.ensures.told (rw c.self.invariant.sized c.self.invariant.are)) in
+    rw (c.release.ensures.released, c.close_of_reader-self-inside.ensures, c.any_open.ensures, c.deref.ensures.value)
+    (pipe_after c.self.inside.segment c.self.inside.limit c.self.inside.written c.self.inside.ahead c.self.inside.segments _ c.self.inside.readers.items _ c.self.inside.writer c.self.inside.closed _ c.self.invariant are l (omega (arith, c.self.invariant.few, length-slice_set c.self.inside.readers.items c.args.i r'))
     (told_by (has_open (all_seen (slice_set c.self.inside.readers.items c.args.i r'))) c.self.inside.closed c.args.status))
 
 pub returns : goal.returns
@@ -54,5 +55,5 @@ returns c =
     rw (← c.self.view_is, seen_get c.self.inside.readers.items c.args.i c.index-reader.result.now f.get) (
       g.count,
       g.within,
-      rw (c.release.ensures, c.close_of_reader-self-inside.ensures, c.any_open.ensures, c.deref.ensures.value, seen-set, g.past, g.bytes, c.kept_status.ensures) refl,
+      rw (c.release.ensures.released, c.close_of_reader-self-inside.ensures, c.any_open.ensures, c.deref.ensures.value, seen-set, g.past, g.bytes, c.kept_status.ensures) refl,
     )

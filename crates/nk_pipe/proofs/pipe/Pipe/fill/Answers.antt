@@ -2,7 +2,7 @@
 use Rattle.std.proofs.Common.{◌≡◌, ℕ, ◌+◌, ◌≤◌, List, length, take, true, Some, Option, refl, sym, ap, ◌∙◌, arith}
 use Rattle.std.proofs.lemmas.List.{length-take}
 use Rattle.nk_segments.specs.Places.{Place}
-use Rattle.nk_segments.specs.Segments.{with_bytes}
+use Rattle.nk_segments.specs.Segments.{with_bytes, changed_at, AreSegments}
 use Rattle.nk_pipe.specs.declared.pipe.Pipe.TheInside.{Inside}
 use Rattle.nk_pipe.specs.declared.cursor.Cursor.{Cursor}
 use Rattle.nk_pipe.specs.Pipe.{has_open}
@@ -45,17 +45,17 @@ within-self-inside-requires c =
 taken : (n : ℕ) (bytes : List ℕ) → n ≤ length bytes → length (take n bytes) ≡ n
 taken n bytes few = omega (arith, few, length-take n bytes)
 
-put_there : (s : Inside) (place : Place) (n : ℕ) (bytes : List ℕ) → IsPipe s.segment s.limit s.segments s.readers.items s.writer s.written s.ahead s.closed → has_open (all_seen s.readers.items) ≡ true → s.writer.place ≡ Some place
-    → s.writer.offset + n ≤ s.segment → n ≤ length bytes → length bytes ≤ s.ahead → Puts s.segment s.limit s.written s.ahead s.segments place s.writer.offset n (take n bytes) s.readers.items s.closed
-put_there s place n bytes is opens stands fits few room =
-    puts s.segment s.limit s.written s.ahead s.segments place s.writer.offset n (take n bytes) s.readers.items s.writer s.closed is opens (at_place s place (is.laid opens) stands) fits (taken n bytes few) (omega (arith, few, room))
+put_there : (s : Inside) (place : Place) (n : ℕ) (bytes : List ℕ) → IsPipe s.segment s.limit s.segments s.readers.items s.writer s.written s.ahead s.closed → AreSegments s.segments.size (changed_at (with_bytes s.writer.offset (take n bytes)) s.segments.segments place)
+    → has_open (all_seen s.readers.items) ≡ true → s.writer.place ≡ Some place → s.writer.offset + n ≤ s.segment → n ≤ length bytes → length bytes ≤ s.ahead → Puts s.segment s.limit s.written s.ahead s.segments place s.writer.offset n (take n bytes) s.readers.items s.closed
+put_there s place n bytes is are opens stands fits few room =
+    puts s.segment s.limit s.written s.ahead s.segments place s.writer.offset n (take n bytes) s.readers.items s.writer s.closed is are opens (at_place s place (is.laid opens) stands) fits (taken n bytes few) (omega (arith, few, room))
 
 pub invariant_of-self : goal.invariant_of-self
 invariant_of-self c =
-    let p = put_there c.self.inside c.in-Some.place c.put_in-n.result c.args.bytes.now c.self.invariant (rw (← c.self.view_is) at c.requires.opens) c.in-Some.is c.put_in-n.ensures.fits c.put_in-n.ensures.most (rw (← c.self.view_is) at c.requires.fits) in
+    let p = put_there c.self.inside c.in-Some.place c.put_in-n.result c.args.bytes.now c.self.invariant (rw c.put_in-n.ensures.put at c.put_in-n.ensures.told) (rw (← c.self.view_is) at c.requires.opens) c.in-Some.is c.put_in-n.ensures.fits c.put_in-n.ensures.most (rw (← c.self.view_is) at c.requires.fits) in
     rw (c.within-self-inside.ensures, c.put_in-n.ensures.put) p.pipe
 
 pub returns-clause-filled : goal.returns-clause-filled
 returns-clause-filled c =
-    let p = put_there c.self.inside c.in-Some.place c.put_in-n.result c.args.bytes.now c.self.invariant (rw (← c.self.view_is) at c.requires.opens) c.in-Some.is c.put_in-n.ensures.fits c.put_in-n.ensures.most (rw (← c.self.view_is) at c.requires.fits) in
+    let p = put_there c.self.inside c.in-Some.place c.put_in-n.result c.args.bytes.now c.self.invariant (rw c.put_in-n.ensures.put at c.put_in-n.ensures.told) (rw (← c.self.view_is) at c.requires.opens) c.in-Some.is c.put_in-n.ensures.fits c.put_in-n.ensures.most (rw (← c.self.view_is) at c.requires.fits) in
     rw (← c.self.view_is, c.put_in-n.ensures.put, p.past, p.bytes) refl

@@ -85,8 +85,9 @@ invariant_of-self c =
     let f = facts c.self.inside c.args.i (length c.args.buffer.now) c.index-reader.result.now c.self.invariant (rw (← c.self.view_is) at c.requires.opens) (rw (← c.self.view_is) at c.requires.fits) c.index-reader.ensures in
     let l = lost c.self.inside c.args.i (length c.args.buffer.now) c.index-reader.result.now c.in-Some.place c.copy_out-n.result c.self.invariant f c.in-Some.is c.copy_out-n.ensures.fits c.copy_out-n.ensures.most in
     let r' : Tracked = stepped c.self.inside.segment c.self.inside.segments.segments c.index-reader.result.now c.in-Some.place c.copy_out-n.result in
+    let are = rw c.passing-cursor.ensures.segments at (c.passing-cursor.ensures.told (rw c.self.invariant.sized c.self.invariant.are)) in
     rw (c.passing-cursor.ensures.segments, c.passing-cursor.ensures.cursor)
-    (pipe_after c.self.inside.segment c.self.inside.limit c.self.inside.written c.self.inside.ahead c.self.inside.segments _ c.self.inside.readers.items _ c.self.inside.writer c.self.inside.closed c.self.inside.closed c.self.invariant l (omega (arith, c.self.invariant.few, length-slice_set c.self.inside.readers.items c.args.i r'))
+    (pipe_after c.self.inside.segment c.self.inside.limit c.self.inside.written c.self.inside.ahead c.self.inside.segments _ c.self.inside.readers.items _ c.self.inside.writer c.self.inside.closed c.self.inside.closed c.self.invariant are l (omega (arith, c.self.invariant.few, length-slice_set c.self.inside.readers.items c.args.i r'))
     (λ _. has_open-set c.self.inside.readers.items c.args.i c.index-reader.result.now r' f.reading.get (rw f.reading.opens refl)))
 
 pub returns-clause-handed : goal.returns-clause-handed
