@@ -5,7 +5,6 @@ use Rattle.std.specs.List.{IsDistinct, AllByRecursion, list_all, list_any}
 use Rattle.std.proofs.lemmas.Map.Steps.{length-le_from_distinct_below}
 use Rattle.std.proofs.lemmas.Grind.{common_steps}
 use Rattle.nk_base.specs.Hold.{is_among}
-use Rattle.nk_base.proofs.Released.{is_among-append}
 use Rattle.std.proofs.lemmas.List.Folds.{list_all-append}
 use Rattle.nk_hold.specs.Hops.{AreApart, AreHops}
 
@@ -13,6 +12,11 @@ use Rattle.nk_hold.specs.Hops.{AreApart, AreHops}
 pub list_any-is_among : (h : ℕ) (hops : List ℕ) → list_any (λ x. x == h) hops ≡ is_among hops h
 list_any-is_among h [] = refl
 list_any-is_among h (x ∷ xs) = grind (arith, list_any-is_among h xs)
+
+-- a hop is among more hops where it is among either
+is_among-append : (hops more : List ℕ) (g : ℕ) → is_among (hops ++ more) g ≡ (is_among hops g || is_among more g)
+is_among-append [] more g = refl
+is_among-append (x ∷ xs) more g = grind (arith, is_among-append xs more g)
 
 -- a hop that is not among hops differs from each
 differs : (h : ℕ) (hops : List ℕ) → is_among hops h ≡ false → AllByRecursion (λ y. eqb h y ≡ false) hops
