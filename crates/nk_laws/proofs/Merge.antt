@@ -1,13 +1,13 @@
 -- The merge: what a child has shown, of what it took of a parent's two lanes, is the trace of one sequential channel.
 use Rattle.std.proofs.Common.{ℕ, zero, suc, ◌≡◌, ◌+◌, ◌≤◌, refl, sym, ◌∙◌, ap, subst, List, [], ◌∷◌, ◌++◌, length, Bool, true, false, ◌||◌, Option, Some, None, inl, inr, if◌then◌else◌, take, ◌==◌, arith, append_assoc, add_assoc, zero-add, add-zero, drop}
-use Rattle.std.proofs.lemmas.Bool.{eqb-true, eq-eqb}
+use Rattle.std.proofs.lemmas.Bool.{cond_both, eqb-true, eq-eqb}
+use Rattle.std.proofs.Math.Bool.{or-true, or-false}
 use Rattle.nk_base.specs.declared.status.Status.{Status}
 use Rattle.nk_base.specs.declared.field.Head.{Head}
 use Rattle.nk_base.specs.declared.message.MainMsg.{MainMsg}
 use Rattle.nk_base.specs.declared.message.BackMsg.{BackMsg}
 use Rattle.nk_base.specs.declared.message.UpMsg.{UpMsg}
 use Rattle.nk_base.specs.Hold.{with_hop}
-use Rattle.nk_base.proofs.Released.{is_among-with_hop}
 use Rattle.nk_plan.specs.declared.plan.ChannelPlan.{ChannelPlan}
 use Rattle.nk_plan.specs.declared.plan.StartLane.{StartLane}
 use Rattle.nk_plan.specs.declared.plan.Hop.{Hop}
@@ -66,21 +66,23 @@ all_other r g (m ∷ ms) n a =
     let e : (r == back_hop m) ≡ false = rw a.0 n in
     rw e (ap (λ t. m ∷ t) (all_other r g ms n a.1))
 
+-- a hop is among more hops where it is among either
+is_among-append : (hops more : List ℕ) (g : ℕ) → is_among (hops ++ more) g ≡ (is_among hops g || is_among more g)
+is_among-append [] more g = refl
+is_among-append (x ∷ xs) more g = grind (arith, is_among-append xs more g)
+
 -- a hop that is released is among the released ones
 own_released : (r : ℕ) (hops : List ℕ) (g : ℕ) → (r == g) ≡ true → is_among (with_hop r hops) g ≡ true
-own_released r hops g t = is_among-with_hop r hops g ∙ rw t (either (is_among hops g))
-  where
-    either : (b : Bool) → (b || true) ≡ true
-    either true = refl
-    either false = refl
+own_released r hops g t =
+    cond_both (is_among hops r) hops (hops ++ r ∷ []) (λ after. is_among after g ≡ true)
+    (λ e. subst (λ (h : ℕ). is_among hops h ≡ true) (eqb-true r g t) e)
+    (λ e. is_among-append hops (r ∷ []) g ∙ rw t (or-true (is_among hops g)))
 
 -- and of all others nothing changes
 other_released : (r : ℕ) (hops : List ℕ) (g : ℕ) → (r == g) ≡ false → is_among (with_hop r hops) g ≡ is_among hops g
-other_released r hops g t = is_among-with_hop r hops g ∙ rw t (neither (is_among hops g))
-  where
-    neither : (b : Bool) → (b || false) ≡ b
-    neither true = refl
-    neither false = refl
+other_released r hops g t =
+    cond_both (is_among hops r) hops (hops ++ r ∷ []) (λ after. is_among after g ≡ is_among hops g)
+    (λ e. refl) (λ e. is_among-append hops (r ∷ []) g ∙ rw t (or-false (is_among hops g)))
 
 released_own : (c : ChannelPlan) (r : ℕ) (md : List MainMsg) (bd : List BackMsg) (s : ChildState) (i : Whole c md bd s)
     → s.hold.report ≡ Some r → (r == i.hop) ≡ true → Whole c md bd (step_release c (Some r) s)
