@@ -1,5 +1,6 @@
 -- How many data callbacks may have begun: at most as many as a child's journal has entries.
 use Rattle.std.proofs.Common.{ℕ, suc, ◌≤◌, List, [], ◌∷◌, ◌++◌, length, true, ◌||◌, Option, Some, None, is_some, if◌then◌else◌, nat_lt, nat_le, slice_get, slice_index, ◌==◌, arith, length-append}
+use Rattle.std.proofs.lemmas.Bool.{cond_both}
 use Rattle.nk_base.specs.declared.status.Status.{Status}
 use Rattle.nk_base.specs.declared.status.Target.{Target}
 use Rattle.nk_base.specs.declared.status.Target.TheVariants as target
@@ -27,7 +28,6 @@ use Rattle.nk_plan.specs.declared.step.ChildStep.TheVariants as step
 use Rattle.nk_plan.specs.Event.{class_of}
 use Rattle.nk_plan.specs.Failure.{merged}
 use Rattle.nk_plan.specs.Child.{ChildState, run_bytes, run_event, offer_event, offer_all, with_entry, call_suspend, call_resume, call_cancel, refusal, call_retarget, is_empty, call_break, perform_call, perform_control, step_act, step_verdict, note_main, main_events_of, step_main, back_hop, back_events_of, back_events, is_among, hold_back, step_back, of_hop, released_hold, step_release, flush_with, runs_on, step_begin, react, react_all, bytes_failure, prepend_cancel, fail_data, finish_event, step_finish, child_step, child_after}
-use Rattle.nk_laws.proofs.Tools.{keeps_if}
 
 abbrev pub Begun : ChildState → Type 0
 Begun s = s.data_begun ≤ length s.journal
@@ -58,7 +58,7 @@ run_begun c t (Cancel st) s h = with_one _ s h
 
 offered_begun : (c : ChannelPlan) (here : Target) (e : ChildEvent) (s : ChildState) → Begun s → Begun (offer_event c here e s)
 offered_begun c here e s h =
-    keeps_if Begun (runs_now class_of s.queue e here) (run_event c here e (record s { queue = running_now s.queue here })) _
+    cond_both (runs_now class_of s.queue e here) (run_event c here e (record s { queue = running_now s.queue here })) _ Begun
     (λ r. run_begun c here e (record s { queue = running_now s.queue here }) h) (λ r. h)
 
 offered_all_begun : (c : ChannelPlan) (here : Target) (es : List ChildEvent) (s : ChildState) → Begun s → Begun (offer_all c here es s)
@@ -78,24 +78,24 @@ break_begun c st s h =
     (with_one (child.Break st) s h)
 
 performed_begun : (c : ChannelPlan) (x : Act) (s : ChildState) → Begun s → Begun (perform_call c x s)
-performed_begun c act.Suspend s h = keeps_if Begun s.stopped (with_entry child.NoEffect s) (call_suspend s) (λ r. with_one child.NoEffect s h) (λ r. with_one child.Suspend s h)
-performed_begun c act.Resume s h = keeps_if Begun (s.stopped || (s.suspends == 0)) (with_entry child.NoEffect s) (call_resume s) (λ r. with_one child.NoEffect s h) (λ r. with_one child.Resume s h)
-performed_begun c (act.Cancel st) s h = keeps_if Begun (s.stopped || is_some s.kept) (with_entry child.NoEffect s) (call_cancel st s) (λ r. with_one child.NoEffect s h) (λ r. with_one (child.Cancel st) s h)
+performed_begun c act.Suspend s h = cond_both s.stopped (with_entry child.NoEffect s) (call_suspend s) Begun (λ r. with_one child.NoEffect s h) (λ r. with_one child.Suspend s h)
+performed_begun c act.Resume s h = cond_both (s.stopped || (s.suspends == 0)) (with_entry child.NoEffect s) (call_resume s) Begun (λ r. with_one child.NoEffect s h) (λ r. with_one child.Resume s h)
+performed_begun c (act.Cancel st) s h = cond_both (s.stopped || is_some s.kept) (with_entry child.NoEffect s) (call_cancel st s) Begun (λ r. with_one child.NoEffect s h) (λ r. with_one (child.Cancel st) s h)
 performed_begun c (act.Retarget n) s h = retarget_begun (refusal c s) n s h
-performed_begun c (act.Break st) s h = keeps_if Begun (s.stopped || s.broken) (with_entry child.NoEffect s) (call_break c st s) (λ r. with_one child.NoEffect s h) (λ r. break_begun c st s h)
+performed_begun c (act.Break st) s h = cond_both (s.stopped || s.broken) (with_entry child.NoEffect s) (call_break c st s) Begun (λ r. with_one child.NoEffect s h) (λ r. break_begun c st s h)
 
 -- The steps
 
 control_begun : (c : ChannelPlan) (o : Option Control) (s : ChildState) → Begun s → Begun (perform_control c o s)
 control_begun c None s h = h
 control_begun c (Some control) s h =
-    keeps_if Begun (nat_le control.after s.finished) (perform_call c control.act (record s { next = suc s.next })) s
+    cond_both (nat_le control.after s.finished) (perform_call c control.act (record s { next = suc s.next })) s Begun
     (λ r. performed_begun c control.act (record s { next = suc s.next }) h) (λ r. h)
 
 act_begun : (c : ChannelPlan) (s : ChildState) → Begun s → Begun (step_act c s)
 act_begun c s h =
-    keeps_if Begun c.closed s _ (λ r. h)
-    (λ r. keeps_if Begun s.opened (perform_control c (slice_get c.controls s.next) s) _ (λ q. control_begun c (slice_get c.controls s.next) s h) (λ q. with_one child.Open s h))
+    cond_both c.closed s _ Begun (λ r. h)
+    (λ r. cond_both s.opened (perform_control c (slice_get c.controls s.next) s) _ Begun (λ q. control_begun c (slice_get c.controls s.next) s h) (λ q. with_one child.Open s h))
 
 verdict_begun : (c : ChannelPlan) (o : Option ℕ) (s : ChildState) → Begun s → Begun (step_verdict c o s)
 verdict_begun c None s h = h
@@ -112,7 +112,7 @@ main_begun : (c : ChannelPlan) (m : MainMsg) (s : ChildState) → Begun s → Be
 main_begun c m s h = reported_begun c.start m (offer_all c target.Main (main_events_of m) s) (offered_all_begun c target.Main (main_events_of m) s h)
 
 passed_begun : (c : ChannelPlan) (m : BackMsg) (s : ChildState) → Begun s → Begun (hold_back c m s)
-passed_begun c m s h = keeps_if Begun (is_among s.hold.released (back_hop m)) (offer_all c target.Back (back_events_of m) s) _ (λ r. offered_all_begun c target.Back (back_events_of m) s h) (λ r. h)
+passed_begun c m s h = cond_both (is_among s.hold.released (back_hop m)) (offer_all c target.Back (back_events_of m) s) _ Begun (λ r. offered_all_begun c target.Back (back_events_of m) s h) (λ r. h)
 
 back_begun : (c : ChannelPlan) (m : BackMsg) (s : ChildState) → Begun s → Begun (step_back c m s)
 back_begun c (back.StartSent i) s h = h
@@ -134,10 +134,10 @@ flush_begun c t Ended s h = with_one (child.Ended t) s h
 
 begin_begun : (c : ChannelPlan) (t : Target) (s : ChildState) → Begun s → Begun (step_begin c t s)
 begin_begun c t s h =
-    keeps_if Begun (runs_on s.running t) s _ (λ r. h)
-    (λ r. keeps_if Begun (is_target s.queue.flushing t) (flush_with c t (taken class_of s.queue t s.queue.waiting) s) _
+    cond_both (runs_on s.running t) s _ Begun (λ r. h)
+    (λ r. cond_both (is_target s.queue.flushing t) (flush_with c t (taken class_of s.queue t s.queue.waiting) s) _ Begun
     (λ q. flush_begun c t (taken class_of s.queue t s.queue.waiting) s h)
-    (λ q. keeps_if Begun (nat_lt 0 (slice_index s.queue.posted (target_number t))) (record s { queue = completed s.queue t; journal = s.journal ++ child.Complete t ∷ [] }) s
+    (λ q. cond_both (nat_lt 0 (slice_index s.queue.posted (target_number t))) (record s { queue = completed s.queue t; journal = s.journal ++ child.Complete t ∷ [] }) s Begun
     (λ p. with_one (child.Complete t) s h) (λ p. h)))
 
 reacted_begun : (c : ChannelPlan) (r : Reaction) (s : ChildState) → Begun s → Begun (react c r s)
@@ -154,7 +154,7 @@ reacted_all_begun c (r ∷ rs) s h = reacted_all_begun c rs (react c r s) (react
 failed_begun : (c : ChannelPlan) (t : Target) (o : Option Status) (s : ChildState) → Begun s → Begun (fail_data c t o s)
 failed_begun c t None s h = h
 failed_begun c t (Some d) s h =
-    keeps_if Begun (same_target t target.Main) (perform_call c (act.Cancel d) s) (prepend_cancel d s) (λ r. performed_begun c (act.Cancel d) s h) (λ r. with_one (child.Prepend d) s h)
+    cond_both (same_target t target.Main) (perform_call c (act.Cancel d) s) (prepend_cancel d s) Begun (λ r. performed_begun c (act.Cancel d) s h) (λ r. with_one (child.Prepend d) s h)
 
 event_begun : (c : ChannelPlan) (t : Target) (e : ChildEvent) (s : ChildState) → Begun s → Begun (finish_event c t e s)
 event_begun c t (Start code st) s h = reacted_all_begun c c.reactions s h
@@ -168,14 +168,14 @@ finish_begun : (c : ChannelPlan) (t : Target) (o : Option (Target × ChildEvent)
 finish_begun c t None s h = h
 finish_begun c t (Some (v, e)) s h =
     let s1 : ChildState = record s { running = None; finished = suc s.finished; journal = s.journal ++ child.Finish t ∷ [] } in
-    keeps_if Begun (same_target v t) (finish_event c t e s1) s (λ r. event_begun c t e s1 (with_one (child.Finish t) s h)) (λ r. h)
+    cond_both (same_target v t) (finish_event c t e s1) s Begun (λ r. event_begun c t e s1 (with_one (child.Finish t) s h)) (λ r. h)
 
 step_begun : (c : ChannelPlan) (x : ChildStep) (s : ChildState) → Begun s → Begun (child_step c x s)
 step_begun c step.Act s h = act_begun c s h
-step_begun c step.Verdict s h = keeps_if Begun s.broken s (step_verdict c s.question s) (λ r. h) (λ r. verdict_begun c s.question s h)
-step_begun c (step.Main m) s h = keeps_if Begun s.broken s (step_main c m (with_entry (child.TookMain m) s)) (λ r. h) (λ r. main_begun c m (with_entry (child.TookMain m) s) (with_one (child.TookMain m) s h))
-step_begun c (step.Back m) s h = keeps_if Begun s.broken s (step_back c m (with_entry (child.TookBack m) s)) (λ r. h) (λ r. back_begun c m (with_entry (child.TookBack m) s) (with_one (child.TookBack m) s h))
-step_begun c step.Release s h = keeps_if Begun s.broken s (step_release c s.hold.report s) (λ r. h) (λ r. release_begun c s.hold.report s h)
+step_begun c step.Verdict s h = cond_both s.broken s (step_verdict c s.question s) Begun (λ r. h) (λ r. verdict_begun c s.question s h)
+step_begun c (step.Main m) s h = cond_both s.broken s (step_main c m (with_entry (child.TookMain m) s)) Begun (λ r. h) (λ r. main_begun c m (with_entry (child.TookMain m) s) (with_one (child.TookMain m) s h))
+step_begun c (step.Back m) s h = cond_both s.broken s (step_back c m (with_entry (child.TookBack m) s)) Begun (λ r. h) (λ r. back_begun c m (with_entry (child.TookBack m) s) (with_one (child.TookBack m) s h))
+step_begun c step.Release s h = cond_both s.broken s (step_release c s.hold.report s) Begun (λ r. h) (λ r. release_begun c s.hold.report s h)
 step_begun c (step.Begin t) s h = begin_begun c t s h
 step_begun c (step.Finish t) s h = finish_begun c t s.running s h
 

@@ -1,7 +1,6 @@
 -- What was made ready is what a list has gained.
-use Rattle.std.proofs.Common.{◌≡◌, ◌++◌, sym, ◌∙◌, ap, List, [], ◌∷◌, length, drop, append_assoc, Option, Some, None}
+use Rattle.std.proofs.Common.{◌≡◌, ◌++◌, sym, ◌∙◌, ap, List, [], ◌∷◌, length, drop, append_assoc, append-nil, Option, Some, None}
 use Rattle.std.proofs.Math.Seq.{drop-append_seam, drop-length}
-use Rattle.nk_laws.proofs.Tools.{append_nil}
 use Rattle.nk_child.specs.Shown.{with_shown}
 use Rattle.nk_child.specs.Views.{Gains}
 
@@ -12,7 +11,7 @@ gains old new before after more n a = a ∙ sym (ap (λ xs. before ++ xs) (ap (d
 -- nothing
 pub gains_none : {A : Type 0} (old new before after : List A) → new ≡ old → after ≡ before → Gains old new before after
 gains_none old new before after n a =
-    a ∙ sym (ap (λ xs. before ++ xs) (ap (drop (length old)) n ∙ drop-length old) ∙ append_nil before)
+    a ∙ sym (ap (λ xs. before ++ xs) (ap (drop (length old)) n ∙ drop-length old) ∙ append-nil before)
 
 -- one item, or none
 pub gains_shown : {A : Type 0} (old new before after : List A) (x : Option A) → new ≡ with_shown old x → after ≡ with_shown before x → Gains old new before after
@@ -24,7 +23,7 @@ pub gains_then : {A : Type 0} (old mid new before after : List A) → Gains old 
 gains_then old mid new before after g n = g ∙ sym (ap (λ xs. before ++ drop (length old) xs) n)
 
 pub nothing_behind : {A : Type 0} (xs : List A) → xs ++ [] ≡ xs
-nothing_behind xs = append_nil xs
+nothing_behind xs = append-nil xs
 
 -- these items, and then those
 pub gains_two : {A : Type 0} (old new before after some more : List A) → new ≡ (old ++ some) ++ more → after ≡ (before ++ some) ++ more → Gains old new before after

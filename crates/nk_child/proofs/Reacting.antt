@@ -1,10 +1,9 @@
 -- What the reactions of a start do and send, one after the other.
-use Rattle.std.proofs.Common.{ℕ, zero, suc, ◌≡◌, ◌+◌, ◌≤◌, refl, sym, ◌∙◌, ap, add-one, List, [], ◌∷◌, ◌++◌, length, drop, slice_get, Bool, true, false, not, ◌||◌, ◌==◌, nat_lt, if◌then◌else◌, Option, Some, None, is_some, append_assoc, arith, All, inl, inr}
+use Rattle.std.proofs.Common.{ℕ, zero, suc, ◌≡◌, ◌+◌, ◌≤◌, refl, sym, ◌∙◌, ap, add-one, List, [], ◌∷◌, ◌++◌, length, drop, slice_get, Bool, true, false, not, ◌||◌, ◌==◌, nat_lt, if◌then◌else◌, Option, Some, None, is_some, append_assoc, append-nil, arith, All, inl, inr}
 use Rattle.std.proofs.Math.ListN.{drop_of_length-le}
 use Rattle.std.proofs.lemmas.Bool.{eqb-true}
 use Rattle.std.proofs.lemmas.Bool.Decides.{nat_tests, eqb_tells}
 use Rattle.std.proofs.lemmas.List.Elements.{All-head, All-tail}
-use Rattle.nk_laws.proofs.Tools.{append_nil}
 use Rattle.nk_base.specs.declared.status.Status.{Status}
 use Rattle.nk_base.specs.declared.status.RetargetError.{RetargetError}
 use Rattle.nk_base.specs.declared.message.UpMsg.{UpMsg}
@@ -135,8 +134,8 @@ rest c (reaction.StartFail st) rs s g = cancel_kept s.kept st s.stopped rs s ref
 rest c (reaction.BytesFail n st) rs s g = refl
 
 stopped_nothing : (b : Bool) (xs : List UpMsg) → xs ≡ xs ++ (if b then [] else [])
-stopped_nothing true xs = sym (append_nil xs)
-stopped_nothing false xs = sym (append_nil xs)
+stopped_nothing true xs = sym (append-nil xs)
+stopped_nothing false xs = sym (append-nil xs)
 
 pub reactions_sent : (c : ChannelPlan) (rs : List Reaction) (s : ChildState) → All IsGoodReaction rs → (react_all c rs s).sent ≡ s.sent ++ start_sends s rs
 reactions_sent c [] s g = stopped_nothing s.stopped s.sent

@@ -1,5 +1,6 @@
 -- The rules of the parts are those of the child's table.
 use Rattle.std.proofs.Common.{ℕ, ◌≡◌, refl, ap, Bool, true, false, not, ◌==◌, if◌then◌else◌, Option, Some, None, is_some}
+use Rattle.std.proofs.Math.Bool.{or-true}
 use Rattle.nk_base.specs.declared.status.Status.{Status}
 use Rattle.nk_base.specs.declared.status.RetargetError.TheVariants as refused_for
 use Rattle.nk_base.specs.Status.{is_failure, is_legal_status}
@@ -13,7 +14,6 @@ use Rattle.nk_plan.specs.Child.{later_refusal, hop_verdict, verdict_status}
 use Rattle.nk_plan.specs.declared.plan.Verdict.{Verdict}
 use Rattle.nk_plan.specs.Plan.{hop_at}
 use Rattle.nk_redirect.specs.Verdict.{veto_of, verdict_status as answer_status}
-use Rattle.nk_laws.proofs.Tally.{or_true}
 use Rattle.nk_retarget.specs.Delivery.{refusal}
 
 -- the refusals of a retarget
@@ -52,7 +52,7 @@ answered c (Some q) h v f e = rw f refl
 
 -- and it is legal
 legal_if : (b : Bool) (s v : Status) → is_failure s ≡ b → is_legal_status v ≡ true → is_legal_status (if b then s else v) ≡ true
-legal_if true s v f h = rw f (or_true (s.0 == 0))
+legal_if true s v f h = rw f (or-true (s.0 == 0))
 legal_if false s v f h = h
 
 pub legal_answer : (kept : Status) (v : Verdict) → is_legal_status (veto_of v) ≡ true → is_legal_status (answer_status kept v) ≡ true
