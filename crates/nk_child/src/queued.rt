@@ -35,6 +35,7 @@ impl Classed for Queued {
 }
 
 impl Queued {
+    /// The queue's item for this event.
     pub(crate) fn new(event: ChildEvent) -> Queued
         requires { IsEventInRange event }
         ensures { result ≡ event }
@@ -42,6 +43,7 @@ impl Queued {
         Queued { event }
     }
 
+    /// The event.
     pub(crate) fn get(&self) -> &ChildEvent
         ensures event { result.now ≡ self.now }
         ensures in_range { IsEventInRange result.now }
@@ -49,6 +51,7 @@ impl Queued {
         &self.event
     }
 
+    /// The event, taken out.
     pub(crate) fn into_event(self) -> ChildEvent
         ensures event { result ≡ self }
         ensures in_range { IsEventInRange result }

@@ -12,7 +12,9 @@ use nk_plan::Reaction;
 /// How a channel stands while the reactions of a start are staged.
 #[derive(Drop)]
 pub(crate) struct Standing {
+    /// The channel is suspended: no further suspend is sent.
     pub(crate) suspended: bool,
+    /// The channel has failed: no further cancel is sent.
     pub(crate) failed: bool,
 }
 

@@ -27,10 +27,15 @@ use std::mem::replace;
 /// `HttpBackgroundChannelChild`.
 #[derive(Drop)]
 pub(crate) struct Work {
+    /// The allocator of its lists.
     pub(crate) alloc: Global,
+    /// What the page does, and what it is asked.
     pub(crate) plan: ChannelPlan,
+    /// The page has opened the channel.
     pub(crate) opened: bool,
+    /// The stop callback has begun.
     pub(crate) stopped: bool,
+    /// The page has broken off: no message is taken any more.
     pub(crate) broken: bool,
     /// The number of the page's next call.
     pub(crate) next: usize,
@@ -38,16 +43,25 @@ pub(crate) struct Work {
     pub(crate) finished: usize,
     /// How many data callbacks have begun.
     pub(crate) data_begun: usize,
+    /// How many redirects are complete.
     pub(crate) hop: usize,
+    /// The first failure.
     pub(crate) first: First,
+    /// The redirect that the page is asked about.
     pub(crate) question: ChildHalf,
+    /// What waits for its start.
     pub(crate) hold: Hold,
+    /// Where data is delivered.
     pub(crate) delivery: Delivery,
+    /// What waits for its callback.
     pub(crate) queue: EventQueue<Queued>,
     /// The callback that runs, and its target.
     pub(crate) running: Option<(Target, ChildEvent)>,
+    /// What it did.
     pub(crate) journal: Grow<ChildEntry>,
+    /// What the listener was shown.
     pub(crate) trace: Grow<Entry>,
+    /// What was sent on the up lane.
     pub(crate) sent: Grow<UpMsg>,
 }
 
