@@ -4,6 +4,7 @@ use Rattle.std.proofs.lemmas.Bool.{cases_lt}
 use Rattle.std.proofs.lemmas.Option.{get_or_from_slice_get}
 use Rattle.std.proofs.lemmas.List.{get_or-take, length-take}
 use Rattle.std.proofs.lemmas.List.Elements.{All-get_or}
+use Rattle.std.specs.declared.alloc.Global.{Global}
 use Rattle.nk_plan.specs.declared.plan.ChannelPlan.{ChannelPlan}
 use Rattle.nk_plan.specs.declared.plan.Hop.{Hop}
 use Rattle.nk_plan.specs.declared.plan.Hop.TheVariants as hop
@@ -84,9 +85,10 @@ pub record Here (c : ChannelPlan) (s : ParentState) (body : Source) : Type 0 whe
 place_body : (p : Phase) (h : Option Hop) (n : ℕ) (a : Asking) (k : Option Status) → IsPlace p h n a k → p ≡ Body → k ≡ None → IsResponse h
 place_body p h n a k place e f = (subst (λ x. IsPlace x h n a k) e place) f
 
-pub here_of : (v : LoadView) (c : ChannelPlan) (s : ParentState) (room : ℕ) (a : Asking) (w : Credit) (body : Source) → record { plan = c; state = s; room = room } ≡ v
+pub here_of : (v : LoadView) (c : ChannelPlan) (s : ParentState) (alloc : Global) (room : ℕ) (a : Asking) (w : Credit) (body : Source)
+    → record { plan = c; state = s; alloc = alloc; room = room } ≡ v
     → IsLoad c s.phase s.hop a s.kept w body → body.next ≡ s.piece → v.state.phase ≡ Body → v.state.kept ≡ None → Here v.plan v.state body
-here_of v c s room a w body is l e p k =
+here_of v c s alloc room a w body is l e p k =
     subst (λ (x : LoadView). Here x.plan x.state body) is (record {
       accepted = l.accepted;
       source = l.same_body;

@@ -1,5 +1,6 @@
 -- What clauses see of a parent. This project's own.
 use Rattle.std.specs.Prelude.{ℕ, Bool, true, false, List, length, drop}
+use Rattle.std.specs.declared.alloc.Global.{Global}
 use Rattle.nk_base.specs.declared.status.Moved.{Moved}
 use Rattle.nk_base.specs.declared.status.Moved.TheVariants.{Did, Idle}
 use Rattle.nk_plan.specs.declared.plan.ChannelPlan.{ChannelPlan}
@@ -13,10 +14,11 @@ pub record ParentView : Type 0 where
   pub plan : ChannelPlan
   pub state : ParentState
 
--- a load: a parent, and for how many more entries its journal has room
+-- a load: a parent, the allocator of its lists, and for how many more entries its journal has room
 pub record LoadView : Type 0 where
   pub plan : ChannelPlan
   pub state : ParentState
+  pub alloc : Global
   pub room : ℕ
 
 -- the entries that a step added to the journal

@@ -56,6 +56,7 @@ impl Model for Load {
         credit = s.window.credit;
         journal = s.journal.items;
       };
+      alloc = s.alloc;
       room = s.journal.room;
     } };
 
@@ -68,6 +69,7 @@ impl Load {
         requires { Accepted plan }
         ensures plan { IfOk result (λ r. r.plan ≡ plan) }
         ensures state { IfOk result (λ r. r.state ≡ new_parent plan) }
+        ensures alloc { IfOk result (λ r. r.alloc ≡ alloc) }
     {
         let body = body_of(alloc, &plan)?;
         Ok(Load {
@@ -84,8 +86,10 @@ impl Load {
         })
     }
 
-    /// The allocator of its lists.
-    pub fn alloc(&self) -> Global {
+    /// The allocator of its lists: the one that `new` was given.
+    pub fn alloc(&self) -> Global
+        ensures { result ≡ self.now.alloc }
+    {
         self.alloc
     }
 
@@ -93,6 +97,7 @@ impl Load {
     pub fn put_journal(&mut self, journal: ParentJournal)
         ensures plan { self.new.plan ≡ self.old.plan }
         ensures state { self.new.state ≡ record self.old.state { journal = journal } }
+        ensures alloc { self.new.alloc ≡ self.old.alloc }
     {
         self.journal = journal.into_grow();
     }
@@ -102,6 +107,7 @@ impl Load {
         ensures journal { result ≡ self.old.state.journal }
         ensures plan { self.new.plan ≡ self.old.plan }
         ensures state { self.new.state ≡ record self.old.state { journal = [] } }
+        ensures alloc { self.new.alloc ≡ self.old.alloc }
     {
         ParentJournal::from_grow(replace(&mut self.journal, Grow::new(self.alloc)))
     }

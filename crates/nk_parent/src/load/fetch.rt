@@ -35,6 +35,7 @@ impl Load {
         requires back_room { 2 ≤ B.room back.old }
         requires back_empty { B.staged back.old ≡ [] }
         ensures plan { self.new.plan ≡ self.old.plan }
+        ensures alloc { self.new.alloc ≡ self.old.alloc }
         ensures state { OnOk result (self.new.state ≡ parent_step self.old.plan step.Fetch self.old.state) }
         ensures answer { IfOk result (λ r. r ≡ moved_if (parent_enabled self.old.plan step.Fetch self.old.state)) }
         ensures err { OnErr result (self.new.state ≡ self.old.state) }

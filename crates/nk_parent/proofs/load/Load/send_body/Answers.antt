@@ -16,7 +16,7 @@ pub returns-in_ok-send_piece-in-Piece-clause-state :
     goal.returns-in_ok-send_piece-in-Piece-clause-state
 returns-in_ok-send_piece-in-Piece-clause-state g c =
     let v : LoadView = c.args.self.now in
-    let h : Here v.plan v.state c.self.inside.body = here_of v _ _ _ c.self.inside.redirects c.self.inside.window c.self.inside.body c.self.view_is c.self.invariant refl c.requires.phase c.requires.kept in
+    let h : Here v.plan v.state c.self.inside.body = here_of v _ _ _ _ c.self.inside.redirects c.self.inside.window c.self.inside.body c.self.view_is c.self.invariant refl c.requires.phase c.requires.kept in
     let gives = sym c.in_ok-offset.ensures ∙ c.in-Piece.is in
     c.in_ok-send_piece-in-Piece.ensures.state
     ∙ piece_row v.plan v.state c.self.inside.body c.in-Piece.offset c.in-Piece.piece h c.requires.phase
@@ -25,13 +25,13 @@ returns-in_ok-send_piece-in-Piece-clause-state g c =
 pub returns-in_ok-stop-in-EndOk-clause-state : goal.returns-in_ok-stop-in-EndOk-clause-state
 returns-in_ok-stop-in-EndOk-clause-state g c =
     let v : LoadView = c.args.self.now in
-    let h : Here v.plan v.state c.self.inside.body = here_of v _ _ _ c.self.inside.redirects c.self.inside.window c.self.inside.body c.self.view_is c.self.invariant refl c.requires.phase c.requires.kept in
+    let h : Here v.plan v.state c.self.inside.body = here_of v _ _ _ _ c.self.inside.redirects c.self.inside.window c.self.inside.body c.self.view_is c.self.invariant refl c.requires.phase c.requires.kept in
     c.in_ok-stop-in-EndOk.ensures.state ∙ end_row v.plan v.state c.self.inside.body c.in_ok-trailers-in-EndOk.trailers h (sym c.in_ok-offset.ensures ∙ c.in-EndOk.is) c.in_ok-trailers-in-EndOk.ensures.trailers
 
 pub returns-in_ok-stop-in-EndFail-clause-state : goal.returns-in_ok-stop-in-EndFail-clause-state
 returns-in_ok-stop-in-EndFail-clause-state g c =
     let v : LoadView = c.args.self.now in
-    let h : Here v.plan v.state c.self.inside.body = here_of v _ _ _ c.self.inside.redirects c.self.inside.window c.self.inside.body c.self.view_is c.self.invariant refl c.requires.phase c.requires.kept in
+    let h : Here v.plan v.state c.self.inside.body = here_of v _ _ _ _ c.self.inside.redirects c.self.inside.window c.self.inside.body c.self.view_is c.self.invariant refl c.requires.phase c.requires.kept in
     let gives = sym c.in_ok-offset.ensures ∙ c.in-EndFail.is in
     let bad : is_failure c.in-EndFail.status ≡ true = failing_end v.plan v.state c.self.inside.body c.in-EndFail.status h gives in
     let state = ap (λ (x : LoadView). x.state) c.self-in-EndFail.view_is ∙ c.in_ok-stop-in-EndFail.ensures.state in
