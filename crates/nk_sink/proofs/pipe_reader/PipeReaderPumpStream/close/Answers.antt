@@ -7,7 +7,7 @@ invariant_of-self c =
     let r = there c.args.self.now.pipe.now c.args.self.now.reader c.args.self.now.there in
     record { there = (close_is c.args.self.now.pipe.now c.close_reader.new.self c.args.self.now.reader r.0 c.args.status c.requires r.1 (c.close_reader.ensures.state _ (stands_whole c.args.self.now.pipe.now))).1 }
 
-pub returns : goal.returns
-returns c =
+pub returns-clause-stream : goal.returns-clause-stream
+returns-clause-stream c =
     let r = there c.args.self.now.pipe.now c.args.self.now.reader c.args.self.now.there in
     (close_is c.args.self.now.pipe.now c.close_reader.new.self c.args.self.now.reader r.0 c.args.status c.requires r.1 (c.close_reader.ensures.state _ (stands_whole c.args.self.now.pipe.now))).0
