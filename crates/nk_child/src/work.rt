@@ -35,7 +35,7 @@ pub(crate) struct Work {
     pub(crate) opened: bool,
     /// The stop callback has begun.
     pub(crate) stopped: bool,
-    /// The page has broken off: no message is taken any more.
+    /// The parent process is gone: no message is taken any more.
     pub(crate) broken: bool,
     /// The number of the page's next call.
     pub(crate) next: usize,
