@@ -21,11 +21,9 @@ use Rattle.nk_plan.specs.Journal.{first, final, cut, ups_taken, mains_sent, back
 use Rattle.nk_plan.specs.Parent.{ParentState}
 use Rattle.nk_plan.specs.Channel.{Channel, main_lane, back_lane, up_lane, channel_step}
 use Rattle.nk_plan.specs.Run.{trace_of}
-use Rattle.nk_laws.specs.Laws.{LanesLaw, OrderRunsLaw, RunLaw, StateLaw}
-use Rattle.nk_laws.proofs.Joined.{Joined}
-use Rattle.nk_drain.specs.Work.{half_lane}
-use Rattle.nk_drain.specs.Laws.{RoomLaw}
-use Rattle.nk_drain.proofs.Hops.{few_pieces}
+use Rattle.nk_laws.specs.Laws.{LanesLaw, JoinedLaw, OrderRunsLaw, RunLaw, StateLaw}
+use Rattle.nk_laws.specs.Moves.{Joined, half_lane}
+use Rattle.nk_drain.specs.Laws.{PiecesLaw, RoomLaw}
 use Rattle.nk_world.specs.Play.{Play, play_step, shown_since, IsReached}
 use Rattle.nk_world.specs.declared.playing.Playing.{Playing}
 use Rattle.nk_world.specs.Parts.{play_of, parts_of, IsSound, HasRoom}
@@ -33,8 +31,18 @@ use Rattle.nk_world.proofs.Lists.{prefix_length}
 use Rattle.nk_world.proofs.Plays.{reached_channel, reached_joined, reached_step, entries_are, trace_then}
 use Rattle.nk_world.proofs.Ends.{ran, told}
 
-pieces_most : (c : ChannelPlan) (f : ℕ) → Accepted c → length (pieces_at c f) ≤ 65536
-pieces_most c f a = omega (arith, few_pieces c f a, a.few_pieces)
+-- what the layers below say of what a channel holds
+pub record RoomLaws : Type 0 where
+  pub pieces : PiecesLaw
+  pub room : RoomLaw
+  pub lanes : LanesLaw
+  pub joined : JoinedLaw
+  pub orders : OrderRunsLaw
+  pub run : RunLaw
+  pub state : StateLaw
+
+pieces_most : (c : ChannelPlan) (f : ℕ) → Accepted c → PiecesLaw → length (pieces_at c f) ≤ 65536
+pieces_most c f a law = omega (arith, law c f a, a.few_pieces)
 
 -- the trace
 
@@ -52,13 +60,13 @@ trace_most c f q x (entry.Start code s ∷ t) h = let l : length t ≤ length (p
 trace_most c f q x (entry.Bytes o p ∷ t) h = absurd h
 trace_most c f q x (entry.Stop s trailers ∷ t) h = absurd h
 
-few_shown : (p : Play) → IsReached p → OrderRunsLaw → RunLaw → StateLaw → length p.channel.child.trace ≤ 65538
-few_shown p r orders run state =
+few_shown : (p : Play) → IsReached p → RoomLaws → length p.channel.child.trace ≤ 65538
+few_shown p r law =
     let j = p.channel.child.journal in
-    let h : SeqTrace p.plan (final j) (first j) (cut j) (trace_of p.plan j) = run p.plan p.channel.parent.journal j p.channel.forwarded r.accepted (ran p r orders) in
+    let h : SeqTrace p.plan (final j) (first j) (cut j) (trace_of p.plan j) = law.run p.plan p.channel.parent.journal j p.channel.forwarded r.accepted (ran p r law.orders) in
     let l : length (trace_of p.plan j) ≤ length (pieces_at p.plan (final j)) + 2 = trace_most p.plan (final j) (first j) (cut j) (trace_of p.plan j) h in
-    let e : length p.channel.child.trace ≡ length (trace_of p.plan j) = ap (λ (x : List Entry). length x) (told p r state) in
-    omega (arith, pieces_most p.plan (final j) r.accepted)
+    let e : length p.channel.child.trace ≡ length (trace_of p.plan j) = ap (λ (x : List Entry). length x) (told p r law.joined law.state) in
+    omega (arith, pieces_most p.plan (final j) r.accepted law.pieces)
 
 -- the background lane
 
@@ -90,16 +98,16 @@ started_most c u f md bd s =
       s.within,
     )
 
-sent_most : (c : ChannelPlan) (u : List UpMsg) (md : List MainMsg) (bd : List BackMsg) → Accepted c → LaneLaw c u md bd → length bd ≤ 65538
-sent_most c u md bd a (f, all, inl un) = let e : length bd ≡ 0 = ap (λ (x : List BackMsg). length x) un.0 in omega arith
-sent_most c u md bd a (f, all, inr s) = omega (arith, started_most c u f md bd s, pieces_most c f a)
+sent_most : (c : ChannelPlan) (u : List UpMsg) (md : List MainMsg) (bd : List BackMsg) → Accepted c → PiecesLaw → LaneLaw c u md bd → length bd ≤ 65538
+sent_most c u md bd a law (f, all, inl un) = let e : length bd ≡ 0 = ap (λ (x : List BackMsg). length x) un.0 in omega arith
+sent_most c u md bd a law (f, all, inr s) = omega (arith, started_most c u f md bd s, pieces_most c f a law)
 
-few_moved : (p : Play) → IsReached p → LanesLaw → p.channel.forwarded ≤ 65538
-few_moved p r lanes =
-    let j : Joined p.plan p.channel = reached_joined p r in
+few_moved : (p : Play) → IsReached p → RoomLaws → p.channel.forwarded ≤ 65538
+few_moved p r law =
+    let j : Joined p.plan p.channel = reached_joined p r law.joined in
     let e = p.channel.parent.journal in
     let l : length (backs_sent e) ≤ 65538 =
-    sent_most p.plan (ups_taken e) (mains_sent e) (backs_sent e) r.accepted (lanes p.plan e r.accepted (j.parent_steps, ap (λ (s : ParentState). s.journal) j.parent_is)) in
+    sent_most p.plan (ups_taken e) (mains_sent e) (backs_sent e) r.accepted law.pieces (law.lanes p.plan e r.accepted (j.parent_steps, ap (λ (s : ParentState). s.journal) j.parent_is)) in
     omega (arith, j.within, l)
 
 -- what a channel holds is little, also after one step more
@@ -111,17 +119,17 @@ record IsSmall (p : Play) : Type 0 where
   forwarded : p.channel.forwarded < 2 ^ 24
   trace : (x : Step) → length (channel_step p.plan x p.channel).child.trace < 2 ^ 24
 
-small : (p : Play) → IsReached p → RoomLaw → LanesLaw → OrderRunsLaw → RunLaw → StateLaw → IsSmall p
-small p r room lanes orders run state =
+small : (p : Play) → IsReached p → RoomLaws → IsSmall p
+small p r law =
     let P : Channel → Type 0 = λ w. (length (main_lane w) < 16777216) × (length (half_lane w) < 16777216) × (length (back_lane w) < 16777216) × (length (up_lane w) < 16777216) in
-    let h : P p.channel = subst P (reached_channel p r) (room p.plan r.steps r.accepted) in
+    let h : P p.channel = subst P (reached_channel p r) (law.room p.plan r.steps r.accepted) in
     record {
       main = h.0;
       inner = h.1;
       back = h.2;
       up = h.3;
-      forwarded = omega (arith, few_moved p r lanes);
-      trace = λ x. omega (arith, few_shown (play_step x p) (reached_step x p r) orders run state);
+      forwarded = omega (arith, few_moved p r law);
+      trace = λ x. omega (arith, few_shown (play_step x p) (reached_step x p r) law);
     }
 
 -- so the parts have room
@@ -150,6 +158,5 @@ parts_room p r s = record {
   entries = λ x. handed p r s x;
 }
 
-pub roomy : (s : Playing) → IsSound s → RoomLaw → LanesLaw → OrderRunsLaw → RunLaw → StateLaw → HasRoom s
-roomy s h room lanes orders run state =
-    subst HasRoom h.parts (parts_room (play_of s) h.reached (small (play_of s) h.reached room lanes orders run state))
+pub roomy : (s : Playing) → IsSound s → RoomLaws → HasRoom s
+roomy s h law = subst HasRoom h.parts (parts_room (play_of s) h.reached (small (play_of s) h.reached law))

@@ -1,19 +1,19 @@
 -- What holds of each channel of a world.
-use Rattle.std.proofs.Common.{ℕ, suc, ◌≡◌, ◌+◌, ◌<◌, ◌≤◌, refl, sym, ◌∙◌, ap, subst, List, [], ◌∷◌, ◌++◌, length, map, take, drop, slice_get, slice_set, get_or, ◌-◌, Bool, false, Option, Some, Result, Ok, Err, IfOk, arith}
+use Rattle.std.proofs.Common.{zero, ℕ, suc, ◌≡◌, ◌+◌, ◌<◌, ◌≤◌, refl, sym, ◌∙◌, ap, subst, List, [], ◌∷◌, ◌++◌, length, map, take, drop, slice_get, slice_set, get_or, ◌-◌, Bool, false, Option, Some, Result, Ok, Err, IfOk, arith, None}
 use Rattle.std.specs.List.{All, AllZip}
 use Rattle.std.specs.Option.{option_map}
 use Rattle.std.proofs.lemmas.List.{map-set, take_more, drop-set-lt, take-append-le, take_all, length-map, length-drop}
-use Rattle.std.proofs.Math.Seq.{drop-cons, take-suc-set}
-use Rattle.std.proofs.lemmas.Option.{slice_get-map, slice_get-get_or}
+use Rattle.std.proofs.Math.Seq.{drop-cons, map-set_same, take-suc-set}
+use Rattle.std.proofs.lemmas.Option.{slice_get-map, slice_get-get_or, get_or_from_slice_get}
 use Rattle.std.proofs.lemmas.List.Elements.{All-nil, All-cons, All-head, All-tail, AllZip-push}
 use Rattle.nk_plan.specs.declared.plan.ChannelPlan.{ChannelPlan}
 use Rattle.nk_plan.specs.declared.step.Step.{Step}
 use Rattle.nk_plan.specs.declared.ends.ChannelEnd.{ChannelEnd}
 use Rattle.nk_plan.specs.Accepted.{Accepted}
 use Rattle.nk_world.specs.declared.playing.Playing.{Playing}
-use Rattle.nk_world.specs.Play.{Play, new_play, play_step, play_enabled, IsReached, IsQuiet, IsDrained}
+use Rattle.nk_world.specs.Play.{Play, new_play, play_step, play_enabled, IsReached, IsQuiet, IsDrained, tried, round_steps}
 use Rattle.nk_world.specs.Parts.{play_of, IsSound, DrainsTo, new_parts}
-use Rattle.nk_world.specs.World.{WorldView, plan_of, plans_of, step_in, enabled_in, world_step, world_enabled, AreDrained}
+use Rattle.nk_world.specs.World.{WorldView, plan_of, plans_of, step_in, enabled_in, world_step, world_enabled, world_round, world_rounds, AreDrained}
 use Rattle.nk_world.specs.End.{end_of, IsEnd}
 use Rattle.nk_base.specs.declared.status.Moved.{Moved}
 use Rattle.nk_base.specs.declared.status.Memory.{Memory}
@@ -183,3 +183,32 @@ world_promised (Ok es) xs f w e a law h =
     let P : WorldView → List ChannelEnd → Type 0 = λ v ds. All IsQuiet v.plays → AllZip IsEnd (map plan_of v.plays) ds in
     subst (λ (v : WorldView). P v es) e (subst (λ (ds : List ChannelEnd). P (view_of xs f) ds) (sym h) (λ q. ends_each xs a law q))
 world_promised (Err m) xs f w e a law h = h
+
+-- each channel keeps its plan
+
+tried_plan : (xs : List Step) (p : Play) → (tried xs p).plan ≡ p.plan
+tried_plan [] p = refl
+tried_plan (x ∷ xs) p = tried_plan xs (play_step x p)
+
+round_plans : (ps : List Play) → map plan_of (world_round ps) ≡ map plan_of ps
+round_plans [] = refl
+round_plans (p ∷ ps) =
+    ap (λ (c : ChannelPlan). c ∷ map plan_of (world_round ps)) (tried_plan round_steps p) ∙ ap (λ (cs : List ChannelPlan). p.plan ∷ cs) (round_plans ps)
+
+rounds_plans : (n : ℕ) (ps : List Play) → map plan_of (world_rounds n ps) ≡ map plan_of ps
+rounds_plans zero ps = refl
+rounds_plans (suc n) ps = rounds_plans n (world_round ps) ∙ round_plans ps
+
+pub drained_plans : (ps qs : List Play) → AreDrained ps qs → map plan_of qs ≡ map plan_of ps
+drained_plans ps qs d = ap (λ (xs : List Play). map plan_of xs) (sym d.led) ∙ rounds_plans d.count ps
+
+in_plans : (i : ℕ) (x : Step) (ps : List Play) (o : Option Play) → slice_get ps i ≡ o → map plan_of (step_in i x ps o) ≡ map plan_of ps
+in_plans i x ps None e = refl
+in_plans i x ps (Some p) e = map-set_same plan_of ps i (play_step x p) p (ap plan_of (sym (get_or_from_slice_get ps i p p e)))
+
+pub stepped_plans : (n : ℕ) (x : Step) (ps : List Play) → map plan_of (world_step n x ps) ≡ map plan_of ps
+stepped_plans n x ps = in_plans (n - 1) x ps (slice_get ps (n - 1)) refl
+
+pub plans_new : (cs : List ChannelPlan) → map plan_of (map new_play cs) ≡ cs
+plans_new [] = refl
+plans_new (c ∷ cs) = ap (λ (ds : List ChannelPlan). c ∷ ds) (plans_new cs)

@@ -12,8 +12,8 @@ use Rattle.nk_plan.specs.Run.{state_of, trace_of, Run}
 use Rattle.nk_plan.specs.Ending.{ending_of}
 use Rattle.nk_plan.specs.Enabled.{IsSettled}
 use Rattle.nk_plan.specs.Calm.{IsCalm, calm_trace}
-use Rattle.nk_laws.specs.Laws.{OrderRunsLaw, RunLaw, StateLaw, EndingLaw, CalmLaw, ClosedLaw}
-use Rattle.nk_laws.proofs.Joined.{Joined}
+use Rattle.nk_laws.specs.Laws.{JoinedLaw, StateLaw, OrderRunsLaw, RunLaw, EndingLaw, CalmLaw, ClosedLaw}
+use Rattle.nk_laws.specs.Moves.{Joined}
 use Rattle.nk_sink.specs.Listener.{Listener, ends_of}
 use Rattle.nk_sink.specs.Reached.{IsDrained, ReadersLaw, readers_of, whole_end}
 use Rattle.nk_world.specs.Play.{Play, IsReached, IsQuiet}
@@ -24,6 +24,7 @@ use Rattle.nk_world.proofs.Settled.{settled, pumped}
 
 -- what the layers below say of a channel that was drained
 pub record EndLaws : Type 0 where
+  pub joined : JoinedLaw
   pub orders : OrderRunsLaw
   pub run : RunLaw
   pub state : StateLaw
@@ -35,9 +36,9 @@ pub record EndLaws : Type 0 where
 pub ran : (p : Play) → IsReached p → OrderRunsLaw → Run p.plan p.channel.parent.journal p.channel.child.journal p.channel.forwarded
 ran p r law = subst (λ (w : Channel). Run p.plan w.parent.journal w.child.journal w.forwarded) (reached_channel p r) (law p.plan r.steps)
 
-pub told : (p : Play) → IsReached p → StateLaw → p.channel.child.trace ≡ trace_of p.plan p.channel.child.journal
-told p r law =
-    let j : Joined p.plan p.channel = reached_joined p r in
+pub told : (p : Play) → IsReached p → JoinedLaw → StateLaw → p.channel.child.trace ≡ trace_of p.plan p.channel.child.journal
+told p r sides law =
+    let j : Joined p.plan p.channel = reached_joined p r sides in
     let e : state_of p.plan p.channel.child.journal ≡ p.channel.child =
     subst (λ (s : ChildState). state_of p.plan s.journal ≡ s) j.child_is ((law p.plan).0 j.child_steps) in
     sym (ap (λ (s : ChildState). s.trace) e)
@@ -77,7 +78,7 @@ calmed p r law q i =
     let j = p.channel.child.journal in
     let run : Run c p.channel.parent.journal j p.channel.forwarded = ran p r law.orders in
     let calm = law.calm c p.channel.parent.journal j p.channel.forwarded r.accepted i run in
-    let t : p.channel.child.trace ≡ trace_of c j = told p r law.state in
+    let t : p.channel.child.trace ≡ trace_of c j = told p r law.joined law.state in
     by_ending (ending_of c j) (λ e. t ∙ calm.0 e) (λ e. absurd (calm.1 e))
     (λ e.
     let closed : c.closed ≡ true = only_closed c.closed _ _ e in
@@ -89,7 +90,7 @@ is_end p r law q =
     let c = p.plan in
     let j = p.channel.child.journal in
     let run : Run c p.channel.parent.journal j p.channel.forwarded = ran p r law.orders in
-    let t : p.channel.child.trace ≡ trace_of c j = told p r law.state in
+    let t : p.channel.child.trace ≡ trace_of c j = told p r law.joined law.state in
     record {
       run = run;
       sequential =

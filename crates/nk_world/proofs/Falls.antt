@@ -8,7 +8,8 @@ use Rattle.nk_sink.specs.Listener.{Listener, read_enabled, read_turn, reads_left
 use Rattle.nk_sink.specs.Reached.{LowersLaw}
 use Rattle.nk_drain.specs.Work.{steps_left}
 use Rattle.nk_drain.specs.Laws.{LeftLaw}
-use Rattle.nk_laws.proofs.Tools.{by_bool, both}
+use Rattle.std.proofs.lemmas.Bool.{and_from}
+use Rattle.nk_world.proofs.Tools.{by_bool}
 use Rattle.nk_world.specs.Play.{Play, play_step, play_enabled, tried, are_idle, round_steps, round, IsReached}
 use Rattle.nk_world.proofs.Plays.{reached_channel, reached_step}
 use Rattle.nk_world.proofs.Heard.{Heard, heard, good_kind}
@@ -75,7 +76,7 @@ steps_below (x ∷ xs) p r idle law =
     (λ e.
     let d : play_step x p ≡ p = idle_step x p r idle e in
     elim (steps_below xs p r idle law) [
-      | inl h ↦ inl (both (not (play_enabled x p)) (are_idle xs p) (ap not e) h)
+      | inl h ↦ inl (and_from (not (play_enabled x p)) (are_idle xs p) (ap not e) h)
       | inr c ↦ inr (subst (λ (s : Play). Below (tried xs s) p) (sym d) c)
     ])
 

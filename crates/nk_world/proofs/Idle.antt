@@ -8,7 +8,8 @@ use Rattle.nk_plan.specs.Channel.{Channel, channel_step}
 use Rattle.nk_sink.specs.Listener.{Listener, entered_all, read_enabled, read_turn}
 use Rattle.nk_sink.specs.Reached.{IdleLaw}
 use Rattle.nk_drain.specs.Laws as drain
-use Rattle.nk_laws.proofs.Tools.{one, other, le_or_more}
+use Rattle.std.proofs.lemmas.Bool.{and_parts}
+use Rattle.nk_world.proofs.Tools.{le_or_more}
 use Rattle.nk_world.specs.Play.{Play, shown_since, play_step, play_enabled, tried, are_idle, round_steps, round, rounds, IsReached, IsQuiet, IsDrained}
 use Rattle.nk_world.proofs.Plays.{reached_step, none_shown}
 use Rattle.nk_world.proofs.Heard.{Heard, heard, good_kind}
@@ -50,8 +51,8 @@ not_enabled false h = refl
 pub idle_all : (xs : List Step) (p : Play) → IsReached p → IdleLaws → are_idle xs p ≡ true → tried xs p ≡ p
 idle_all [] p r law h = refl
 idle_all (x ∷ xs) p r law h =
-    let e : play_step x p ≡ p = idle_step x p r law (not_enabled (play_enabled x p) (one (not (play_enabled x p)) (are_idle xs p) h)) in
-    ap (λ (q : Play). tried xs q) e ∙ idle_all xs p r law (other (not (play_enabled x p)) (are_idle xs p) h)
+    let e : play_step x p ≡ p = idle_step x p r law (not_enabled (play_enabled x p) (and_parts (not (play_enabled x p)) (are_idle xs p) h).0) in
+    ap (λ (q : Play). tried xs q) e ∙ idle_all xs p r law (and_parts (not (play_enabled x p)) (are_idle xs p) h).1
 
 pub idle_round : (p : Play) → IsReached p → IdleLaws → IsQuiet p → round p ≡ p
 idle_round p r law h = idle_all round_steps p r law h

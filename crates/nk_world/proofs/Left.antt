@@ -1,7 +1,7 @@
 -- How many rounds a drain has still to go. The count is made by what is left to do, which every round lowers.
 use Rattle.std.proofs.Common.{ℕ, zero, suc, ◌≡◌, ◌<◌, inl, inr, refl, ◌∙◌, ap, true, false, if◌then◌else◌, nat_lt, arith}
 use borrow.Author.Tests.{ltb-true, lt-ltb}
-use Rattle.nk_laws.proofs.Tools.{by_bool, le_or_more}
+use Rattle.nk_world.proofs.Tools.{by_bool, le_or_more}
 use Rattle.nk_world.specs.Play.{Play, are_idle, round_steps, round, rounds, IsReached, IsQuiet}
 use Rattle.nk_world.proofs.Idle.{IdleLaws, reached_all}
 use Rattle.nk_world.proofs.Falls.{FallLaws, moves_left, shows_left, Below, round_below}

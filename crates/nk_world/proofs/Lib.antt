@@ -13,6 +13,6 @@ pub mod Moves
 pub mod Plays
 pub mod Rows
 pub mod Settled
-pub mod Steps
+pub mod Tools
 pub mod Traces
 pub mod Worlds

@@ -1,23 +1,64 @@
 -- Worked rows: what a drained channel leaves. Each row is a computation.
-use Rattle.std.proofs.Common.{ℕ, ◌≡◌, refl, true, List, [], ◌∷◌, replicate, Some, map}
+use Rattle.std.proofs.Common.{ℕ, ◌≡◌, refl, true, false, List, [], ◌∷◌, replicate, Some, map}
 use Rattle.nk_base.specs.declared.status.Target.TheVariants as target
 use Rattle.nk_base.specs.declared.message.Entry.{Entry}
 use Rattle.nk_base.specs.declared.message.Entry.TheVariants as shown
 use Rattle.nk_base.specs.Status.{ok}
+use Rattle.nk_base.specs.declared.status.Status.{Status}
 use Rattle.nk_plan.specs.declared.plan.ChannelPlan.{ChannelPlan}
+use Rattle.nk_plan.specs.declared.plan.StartLane.{StartLane}
 use Rattle.nk_plan.specs.declared.plan.StartLane.TheVariants as lane
+use Rattle.nk_plan.specs.declared.plan.Hop.{Hop}
 use Rattle.nk_plan.specs.declared.plan.Hop.TheVariants as hop
+use Rattle.nk_plan.specs.declared.plan.Finish.TheVariants as finish
+use Rattle.nk_plan.specs.declared.plan.Verdict.TheVariants as verdict
 use Rattle.nk_plan.specs.declared.plan.ListenerKind.TheVariants as listener
+use Rattle.nk_plan.specs.declared.plan.Reaction.{Reaction}
 use Rattle.nk_plan.specs.declared.plan.Reaction.TheVariants as reaction
+use Rattle.nk_plan.specs.declared.plan.Control.{Control}
 use Rattle.nk_plan.specs.declared.ends.Ending.{Ending}
 use Rattle.nk_plan.specs.declared.ends.Ending.TheVariants.{Stopped, Suspended, Unopened}
 use Rattle.nk_plan.specs.declared.ends.ReaderEnd.{ReaderEnd}
 use Rattle.nk_plan.specs.declared.step.Step.{Step}
 use Rattle.nk_plan.specs.declared.step.Step.TheVariants.{Act, Fetch, Up, Forward, Main, Back, Release, Begin, Finish, Read}
-use Rattle.nk_laws.proofs.Played.{plan_of, response, allow, failure, refused, ab, cd, hello}
 use Rattle.nk_world.specs.Play.{Play, new_play, tried, rounds, are_idle, round_steps}
 use Rattle.nk_world.specs.World.{world_rounds, world_step}
 use Rattle.nk_world.specs.End.{end_of}
+
+-- the plans of the rows
+
+abbrev plan_of : List Hop → List Reaction → List Control → StartLane → ChannelPlan
+plan_of hops reactions controls start = record {
+  hops = hops;
+  listener = listener.Plain;
+  retargetable = true;
+  reactions = reactions;
+  controls = controls;
+  window = 1048576;
+  closed = false;
+  start = start;
+}
+
+abbrev response : ℕ → List (List ℕ) → Hop
+response code pieces = hop.Response (record { code = code; fields = [] }) pieces finish.Good []
+
+abbrev allow : ℕ → Hop
+allow code = hop.Redirect code verdict.Allow
+
+abbrev failure : Status
+failure = record { 0 = 0x80004005 }
+
+abbrev refused : Status
+refused = record { 0 = 0x804b000d }
+
+abbrev ab : List ℕ
+ab = 0x61 ∷ 0x62 ∷ []
+
+abbrev cd : List ℕ
+cd = 0x63 ∷ 0x64 ∷ []
+
+abbrev hello : List ℕ
+hello = 0x68 ∷ 0x65 ∷ 0x6c ∷ 0x6c ∷ 0x6f ∷ []
 
 -- the channel after a schedule of its steps, and so many rounds
 abbrev drained : ℕ → List Step → ChannelPlan → Play

@@ -7,7 +7,8 @@ use Rattle.nk_plan.specs.declared.step.Step.TheVariants.{Act, Verdict, Fetch, Up
 use Rattle.nk_plan.specs.Enabled.{IsTried, IsSettled}
 use Rattle.nk_plan.specs.Lanes.{Among}
 use Rattle.nk_sink.specs.Reached.{IsDrained}
-use Rattle.nk_laws.proofs.Tools.{among_more, one, other, le_or_more}
+use Rattle.std.proofs.lemmas.Bool.{and_parts}
+use Rattle.nk_world.proofs.Tools.{among_more, le_or_more}
 use Rattle.nk_world.specs.Play.{Play, play_enabled, are_idle, numbers, turns, round_steps, IsQuiet}
 use Rattle.nk_world.proofs.Idle.{not_enabled}
 
@@ -52,8 +53,8 @@ finish_among t i =
 
 idle_among : (xs : List Step) (x : Step) (p : Play) → Among x xs → are_idle xs p ≡ true → play_enabled x p ≡ false
 idle_among [] x p i h = absurd i
-idle_among (y ∷ xs) x p (inl e) h = subst (λ (z : Step). play_enabled z p ≡ false) e (not_enabled (play_enabled y p) (one (not (play_enabled y p)) (are_idle xs p) h))
-idle_among (y ∷ xs) x p (inr i) h = idle_among xs x p i (other (not (play_enabled y p)) (are_idle xs p) h)
+idle_among (y ∷ xs) x p (inl e) h = subst (λ (z : Step). play_enabled z p ≡ false) e (not_enabled (play_enabled y p) (and_parts (not (play_enabled y p)) (are_idle xs p) h).0)
+idle_among (y ∷ xs) x p (inr i) h = idle_among xs x p i (and_parts (not (play_enabled y p)) (are_idle xs p) h).1
 
 pub settled : (p : Play) → IsQuiet p → IsSettled p.plan p.channel
 unfolding round_steps

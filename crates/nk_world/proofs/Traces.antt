@@ -27,7 +27,8 @@ use Rattle.nk_plan.specs.declared.step.ChildStep.TheVariants as step
 use Rattle.nk_plan.specs.Event.{class_of}
 use Rattle.nk_plan.specs.Failure.{merged}
 use Rattle.nk_plan.specs.Child.{ChildState, main_events_of, note_main, step_main, back_hop, back_events_of, back_events, is_among, hold_back, step_back, of_hop, released_hold, step_release, child_step, run_bytes, run_event, offer_event, offer_all, with_entry, call_suspend, call_resume, call_cancel, refusal, call_retarget, is_empty, call_break, perform_call, perform_control, step_act, step_verdict, flush_with, step_begin, runs_on, react, react_all, bytes_failure, prepend_cancel, fail_data, finish_event, step_finish}
-use Rattle.nk_laws.proofs.Tools.{keeps_if, append_nil}
+use Rattle.std.proofs.Common.{append-nil}
+use Rattle.nk_world.proofs.Tools.{keeps_if}
 
 -- the list begins with t
 abbrev pub Longer : List Entry → List Entry → Type 0
@@ -168,4 +169,4 @@ step_shows c t (step.Begin x) s g = begin_shows c t x s g
 step_shows c t (step.Finish x) s g = finish_shows c t x s.running s g
 
 pub longer : (c : ChannelPlan) (x : ChildStep) (s : ChildState) → Longer s.trace (child_step c x s).trace
-longer c x s = step_shows c s.trace x s ([], sym (append_nil s.trace))
+longer c x s = step_shows c s.trace x s ([], sym (append-nil s.trace))

@@ -17,7 +17,7 @@ use nk_back_parent::BackParent;
 use nk_base::{BackMsg, Entry, MainMsg, Memory, Moved, OutList, UpMsg};
 use nk_child::Child;
 use nk_drain::{falls_law, idle_law, room_law};
-use nk_laws::{lanes_law, merge_law, order_law, state_law};
+use nk_laws::{lanes_law, merge_law, moves_law, order_law, state_law};
 use nk_parent::Parent;
 use nk_plan::{ChannelEnd, ChannelPlan, ChildStep, Step};
 use nk_sink::{Listener, reads_law};
@@ -113,6 +113,7 @@ impl Playing {
     {
         room_law();
         lanes_law();
+        moves_law();
         order_law();
         merge_law();
         state_law();
@@ -123,6 +124,7 @@ impl Playing {
         requires { IsSound self.old }
         ensures { OnOk result (self.new ≡ parts_of (play_step step.Fetch (play_of self.old))) }
     {
+        moves_law();
         self.stays_small();
         self.parent.fetch(&mut self.main, &mut self.inner)?;
         Ok(())
@@ -134,6 +136,7 @@ impl Playing {
         requires enabled { play_enabled step.Up (play_of self.old) ≡ true }
         ensures { OnOk result (self.new ≡ parts_of (play_step step.Up (play_of self.old))) }
     {
+        moves_law();
         if let Some(m) = self.up.take() {
             self.parent.up(m)?;
         }
@@ -146,6 +149,7 @@ impl Playing {
         requires enabled { play_enabled step.Forward (play_of self.old) ≡ true }
         ensures { OnOk result (self.new ≡ parts_of (play_step step.Forward (play_of self.old))) }
     {
+        moves_law();
         self.stays_small();
         self.half.forward(&mut self.inner, &mut self.back)?;
         Ok(())
@@ -157,6 +161,7 @@ impl Playing {
         requires enabled { play_enabled step.Main (play_of self.old) ≡ true }
         ensures { OnOk result (self.new ≡ parts_of (play_step step.Main (play_of self.old))) }
     {
+        moves_law();
         self.stays_small();
         if let Some(m) = self.main.take() {
             self.turn(ChildStep::Main(m))?;
@@ -170,6 +175,7 @@ impl Playing {
         requires enabled { play_enabled step.Back (play_of self.old) ≡ true }
         ensures { OnOk result (self.new ≡ parts_of (play_step step.Back (play_of self.old))) }
     {
+        moves_law();
         self.stays_small();
         if let Some(m) = self.back.take() {
             self.turn(ChildStep::Back(m))?;
@@ -183,6 +189,7 @@ impl Playing {
         requires enabled { channel_enabled self.old.parent.plan step (play_of self.old).channel ≡ true }
         ensures { OnOk result (self.new ≡ parts_of (play_step step (play_of self.old))) }
     {
+        moves_law();
         self.stays_small();
         match step {
             Step::Act => self.turn(ChildStep::Act),

@@ -12,7 +12,7 @@ ghost use Rattle.nk_world.specs.World.{new_world, world_step, world_enabled, pla
 use crate::playing::Playing;
 use nk_base::{Memory, Moved};
 use nk_drain::idle_law;
-use nk_laws::{calm_law, ending_law, merge_law, order_law, state_law};
+use nk_laws::{calm_law, ending_law, merge_law, moves_law, order_law, state_law};
 use nk_plan::{Ends, Plans, Step};
 use nk_sink::{readers_law, reads_law};
 use std::alloc::Global;
@@ -44,7 +44,8 @@ impl World {
     pub fn new(alloc: Global, plans: Plans) -> Result<World, Memory>
         requires few { length plans ≤ 1024 }
         requires accepted { All Accepted plans }
-        ensures { IfOk result (λ w. w ≡ new_world plans) }
+        ensures world { IfOk result (λ w. w ≡ new_world plans) }
+        ensures plans { IfOk result (λ w. plans_of w ≡ plans) }
     {
         let mut channels = Vec::new(alloc);
         for plan in plans.as_slice() {
@@ -66,6 +67,7 @@ impl World {
         requires last { channel ≤ length self.old.plays }
         ensures state { OnOk result (self.new ≡ record { plays = world_step channel step self.old.plays; failed = false }) }
         ensures answer { IfOk result (λ r. r ≡ moved_if (world_enabled channel step self.old.plays)) }
+        ensures plans { OnOk result (plans_of self.new ≡ plans_of self.old) }
         ensures works { OnOk result (self.old.failed ≡ false) }
         ensures err { OnErr result (self.new.failed ≡ true) }
         ensures count { length self.new.plays ≡ length self.old.plays }
@@ -86,6 +88,7 @@ impl World {
     /// each is drained by itself. After `Memory` every later call answers `Memory`.
     pub fn drain(&mut self) -> Result<(), Memory>
         ensures drained { OnOk result (AreDrained self.old.plays self.new.plays) }
+        ensures plans { OnOk result (plans_of self.new ≡ plans_of self.old) }
         ensures works { OnOk result (self.old.failed ≡ false) }
         ensures ok { OnOk result (self.new.failed ≡ false) }
         ensures err { OnErr result (self.new.failed ≡ true) }
@@ -111,6 +114,7 @@ impl World {
         ensures works { OnOk result (self.failed ≡ false) }
         ensures promised { IfOk result (λ r. All IsQuiet self.plays → AllZip IsEnd (plans_of self) r) }
     {
+        moves_law();
         order_law();
         merge_law();
         state_law();

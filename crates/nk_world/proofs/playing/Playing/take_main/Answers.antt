@@ -2,7 +2,7 @@
 use Rattle.std.proofs.Common.{◌∙◌, not}
 use Rattle.nk_base.specs.Queue.{has_some}
 use Rattle.nk_plan.specs.Channel.{main_lane}
-use Rattle.nk_laws.proofs.Tools.{one}
+use Rattle.std.proofs.lemmas.Bool.{and_parts}
 use Rattle.nk_world.specs.Parts.{play_of}
 use Rattle.nk_world.proofs.Idle.{not_enabled}
 use Rattle.nk_world.proofs.Moves.{main_entries, main_moves}
@@ -14,6 +14,6 @@ turn-requires-clause-few c = main_entries c.args.self.now c.requires.sound c.sta
 pub returns-in_ok-turn : goal.returns-in_ok-turn
 returns-in_ok-turn c =
     c.in_ok-turn.ensures
-    ∙ main_moves c.args.self.now c.requires.sound c.in-Some.m c.take.new.self
-    (not_enabled c.args.self.now.child.state.broken (one (not c.args.self.now.child.state.broken) (has_some (main_lane (play_of c.args.self.now).channel)) c.requires.enabled))
+    ∙ main_moves c.moves_law.ensures.moves c.args.self.now c.requires.sound c.in-Some.m c.take.new.self
+    (not_enabled c.args.self.now.child.state.broken (and_parts (not c.args.self.now.child.state.broken) (has_some (main_lane (play_of c.args.self.now).channel)) c.requires.enabled).0)
     c.in-Some.ensures.first c.take.ensures.rest

@@ -6,6 +6,7 @@ pub returns-clause-promised : goal.returns-clause-promised
 returns-clause-promised c =
     world_promised c.take_ends.result c.self.inside.channels.items c.self.inside.failed c.args.self c.self.view_is (c.self.invariant c.if-failed.false)
     (record {
+      joined = c.moves_law.ensures.joined;
       orders = c.order_law.ensures.run;
       run = c.merge_law.ensures.run;
       state = c.state_law.ensures;
