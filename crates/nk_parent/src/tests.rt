@@ -1,4 +1,5 @@
-// Worked examples: the credit of a window, a load that is cancelled before its start, and messages that no phase expects.
+// Worked examples: the credit of a window, a load that is cancelled before its start, and messages that are not expected in
+// the phase in which they come.
 
 ghost use Rattle.std.specs.Prelude.{IfOk};
 ghost use Rattle.nk_plan.specs.Accepted.{Accepted};
@@ -54,7 +55,7 @@ fn play(alloc: Global, parent: &mut Parent, step: ParentStep) -> Result<Sent, Me
 /// A step, what it sends, and the credit that it leaves.
 type Row = (ParentStep, Sent, i64);
 
-/// Whether each step sends what its row says, where so many messages that no phase expects come behind each.
+/// Whether each step sends what its row says, where so many messages that are not expected there come behind each.
 fn plays(alloc: Global, plan: &ChannelPlan, rows: &[Row], strays: u32) -> Result<bool, Memory>
     requires { Accepted plan.now }
 {
@@ -63,27 +64,55 @@ fn plays(alloc: Global, plan: &ChannelPlan, rows: &[Row], strays: u32) -> Result
         if play(alloc, &mut parent, step)? != want || parent.credit() != credit {
             return Ok(false);
         }
+        let status = parent.status();
         for i in 0..strays {
-            parent.up(stray(i))?;
+            parent.up(stray(&parent, i))?;
+        }
+        if parent.status() != status {
+            return Ok(false);
         }
     }
     Ok(true)
 }
 
-/// Message i of those that no phase of a load with two hops, all of whose window is left, expects.
-fn stray(i: u32) -> UpMsg {
-    match i % 5 {
+/// Message i of those that a parent does not expect where it stands, in a load with two hops all of whose window is left.
+fn stray(parent: &Parent, i: u32) -> UpMsg {
+    match i % 7 {
         0 => UpMsg::Verify {
-            hop: 2 + i / 5,
+            hop: 2 + i / 7,
             status: Status::OK,
         },
         1 => UpMsg::Verify {
-            hop: 2 + i / 5,
+            hop: 2 + i / 7,
             status: Status::NET_RESET,
         },
         2 => UpMsg::Cancel { status: Status::OK },
         3 => UpMsg::BytesRead { count: 1 },
-        _ => UpMsg::Resume,
+        4 => UpMsg::Resume,
+        5 => verdict_elsewhere(parent),
+        _ => call_elsewhere(parent),
+    }
+}
+
+/// The page's answer on a hop that it is not asked about, or was asked about before.
+fn verdict_elsewhere(parent: &Parent) -> UpMsg {
+    UpMsg::Verify {
+        hop: parent.is_asking() as u32,
+        status: Status::NET_RESET,
+    }
+}
+
+/// What the page calls in another phase: to cancel where the load is over, else to open where that was done, else to resume
+/// before anything was suspended.
+fn call_elsewhere(parent: &Parent) -> UpMsg {
+    if parent.is_done() {
+        UpMsg::Cancel {
+            status: Status::NET_RESET,
+        }
+    } else if parent.is_open() {
+        UpMsg::Open
+    } else {
+        UpMsg::Resume
     }
 }
 
@@ -169,7 +198,7 @@ fn a_load_that_is_cancelled_early_starts_and_stops(rt: HostRuntime) -> Result<()
 }
 
 #[test]
-fn a_message_that_no_phase_expects_changes_nothing(rt: HostRuntime) -> Result<(), Fail> {
+fn messages_that_are_not_expected_change_nothing(rt: HostRuntime) -> Result<(), Fail> {
     let alloc = rt.alloc();
     let (code, verdict) = (302, Verdict::Allow);
     let verified = UpMsg::Verify {

@@ -1,10 +1,8 @@
 use Rattle.std.proofs.Common.{◌≡◌, ◌≢◌, ◌≤◌, ◌<◌, ◌+◌, ℕ, zero, suc, refl, sym, ap, subst, ◌∙◌, List, [], ◌∷◌, length, map, drop, get_or, sum_by, slice_get, All, Option, Some, None, Result, Ok, Err, IfOk, arith}
 use Rattle.std.specs.List.{AllZip}
-use Rattle.std.proofs.lemmas.List.{drop_more, length-append, length-map, length-replicate}
+use Rattle.std.proofs.lemmas.List.{drop_more, length-append, length-replicate}
 use Rattle.std.proofs.lemmas.List.Elements.{All-nil, All-cons, All-head, All-tail, All-replicate}
 use Rattle.std.proofs.lemmas.List.Sums.{sum_by-cons}
-use Rattle.std.proofs.lemmas.Option.{get_or_from_slice_get}
-use Rattle.std.proofs.Math.Seq.{map-set_same}
 use Rattle.nk_base.specs.declared.message.Entry.{Entry}
 use Rattle.nk_base.specs.declared.message.Entry.TheVariants as entry
 use Rattle.nk_plan.specs.declared.plan.ChannelPlan.{ChannelPlan}
@@ -20,50 +18,12 @@ use Rattle.nk_sink.specs.Listener.{body_of}
 use Rattle.nk_sink.specs.Reached.{readers_of, whole_end}
 use Rattle.nk_gen.specs.Summing.{size_of, bytes_in, AreSumsSmall}
 use Rattle.nk_gen_law.specs.Laws.{Fits, SumsLaw}
-use Rattle.nk_world.specs.Play.{Play, new_play, play_step, tried, round_steps, IsQuiet}
-use Rattle.nk_world.specs.World.{plan_of, step_in, world_step, world_round, world_rounds, AreDrained}
+use Rattle.nk_world.specs.Play.{Play, IsQuiet}
+use Rattle.nk_world.specs.World.{plan_of, world_step}
 use Rattle.nk_world.specs.End.{IsEnd}
 use Rattle.nk_run.specs.Ends.{scheduled, AreEnds}
 
--- CHANNELS KEEP THEIR PLANS
-
-step_keeps : (i : ℕ) (x : Step) (ps : List Play) (o : Option Play) → slice_get ps i ≡ o → map plan_of (step_in i x ps o) ≡ map plan_of ps
-step_keeps i x ps None e = refl
-step_keeps i x ps (Some p) e =
-    let same : plan_of (play_step x p) ≡ plan_of p = refl in
-    map-set_same plan_of ps i (play_step x p) p (same ∙ ap plan_of (sym (get_or_from_slice_get ps i p p e)))
-
--- a step of the schedule
-pub plans_step : (channel : ℕ) (x : Step) (ps : List Play) → map plan_of (world_step channel x ps) ≡ map plan_of ps
-plans_step channel x ps = step_keeps _ x ps _ refl
-
-tried_keeps : (xs : List Step) (p : Play) → plan_of (tried xs p) ≡ plan_of p
-tried_keeps [] p = refl
-tried_keeps (x ∷ xs) p = tried_keeps xs (play_step x p)
-
-round_keeps : (ps : List Play) → map plan_of (world_round ps) ≡ map plan_of ps
-round_keeps [] = refl
-round_keeps (p ∷ ps) =
-    ap (λ (c : ChannelPlan). c ∷ map plan_of (world_round ps)) (tried_keeps round_steps p)
-    ∙ ap (λ (cs : List ChannelPlan). plan_of p ∷ cs) (round_keeps ps)
-
-rounds_keep : (n : ℕ) (ps : List Play) → map plan_of (world_rounds n ps) ≡ map plan_of ps
-rounds_keep zero ps = refl
-rounds_keep (suc n) ps = rounds_keep n (world_round ps) ∙ round_keeps ps
-
--- the drain
-pub plans_drained : (ps qs : List Play) → AreDrained ps qs → map plan_of qs ≡ map plan_of ps
-plans_drained ps qs d = ap (map plan_of) (sym d.led) ∙ rounds_keep d.count ps
-
--- there is one channel for each plan
-pub as_many : (ps : List Play) (plans : List ChannelPlan) → map plan_of ps ≡ plans → length ps ≡ length plans
-as_many ps plans e = sym (length-map ps plan_of) ∙ ap length e
-
 -- THE SCHEDULE
-
-pub new_plans : (plans : List ChannelPlan) → map plan_of (map new_play plans) ≡ plans
-new_plans [] = refl
-new_plans (c ∷ plans) = ap (λ (cs : List ChannelPlan). c ∷ cs) (new_plans plans)
 
 -- the next step of a schedule leads where all that are left lead
 pub scheduled_next : (items : List ScheduleItem) (i : ℕ) (d : ScheduleItem) (ps : List Play) → i < length items

@@ -10,12 +10,18 @@ mod failure;
 mod frames;
 #[cfg(test)]
 mod frames_tests;
+#[cfg(test)]
+mod hostile_tests;
 mod input;
 #[cfg(test)]
 mod log_tests;
 mod made;
 #[cfg(test)]
 mod made_tests;
+#[cfg(test)]
+mod memory_tests;
+#[cfg(test)]
+mod page_tests;
 mod play;
 #[cfg(test)]
 mod play_tests;
