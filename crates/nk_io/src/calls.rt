@@ -12,6 +12,7 @@ pub struct Calls {
 }
 
 impl Calls {
+    /// No call was made yet.
     pub fn new(fails: Vec<u64>) -> Self
         ensures { result ≡ record { fails = fails; made = 0; faults = 0 } }
     {

@@ -18,18 +18,9 @@ pub(crate) fn page(alloc: Global) -> Result<Vec<u8>, Fail> {
     Ok(text)
 }
 
-/// The digits of so many bytes of the page.
-fn digits_of(alloc: Global, bytes: usize) -> Result<Vec<u8>, Fail> {
-    let mut digits = Vec::new(alloc);
-    for _ in 0..bytes {
-        digits.extend_from_slice(b"2e")?;
-    }
-    Ok(digits)
-}
-
 /// The lines of its pieces.
 fn lines_of_pieces(alloc: Global) -> Result<Vec<u8>, Fail> {
-    let piece = digits_of(alloc, 32_768)?;
+    let piece = b"2e".repeat(alloc, 32_768)?;
     let mut number = Buffer::new();
     let mut lines = Vec::new(alloc);
     for index in 0..40u32 {
@@ -45,7 +36,7 @@ fn lines_of_pieces(alloc: Global) -> Result<Vec<u8>, Fail> {
 /// The report of the page.
 pub(crate) fn report_of_page(alloc: Global) -> Result<Vec<u8>, Fail> {
     let pieces = lines_of_pieces(alloc)?;
-    let all = digits_of(alloc, 1_310_720)?;
+    let all = b"2e".repeat(alloc, 1_310_720)?;
     joined(
         alloc,
         &[

@@ -136,12 +136,19 @@ pub struct Draft {
     pub hops: Hops,
     /// The last hop, where it is a response.
     pub response: Option<Response>,
+    /// Its listener.
     pub listener: ListenerKind,
+    /// Whether data may be delivered on a worker.
     pub retargetable: bool,
+    /// What the listener does at its callbacks.
     pub reactions: Reactions,
+    /// The calls of the page.
     pub controls: Controls,
+    /// The bytes that may be under way.
     pub window: u32,
+    /// Whether the channel is never opened.
     pub closed: bool,
+    /// The lane of the start.
     pub start: StartLane,
 }
 

@@ -55,22 +55,39 @@ pub enum Line {
 /// The first word of a line. This project's own.
 #[derive(Clone, Copy, Debug, Drop, PartialEq, Eq)]
 pub enum Keyword {
+    /// `script`
     Script,
+    /// `channel`
     Channel,
+    /// `hop`
     Hop,
+    /// `field`
     Field,
+    /// `piece`
     Piece,
+    /// `hex`
     Hex,
+    /// `fill`
     Fill,
+    /// `end`
     End,
+    /// `trailer`
     Trailer,
+    /// `listener`
     Listener,
+    /// `retargetable`
     Retargetable,
+    /// `window`
     Window,
+    /// `start`
     Start,
+    /// `closed`
     Closed,
+    /// `at`
     At,
+    /// `when`
     When,
+    /// `schedule`
     Schedule,
     /// A decimal number, as the lines behind `schedule` begin.
     Number,

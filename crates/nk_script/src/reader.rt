@@ -42,11 +42,13 @@ const MOST_STEPS: usize = 1_000_000;
 /// A script, as far as its lines have come. This project's own.
 #[derive(Drop)]
 pub struct Reader {
+    /// Where the next line stands.
     pub place: Place,
     /// The plans of the channels that are complete.
     pub plans: Plans,
     /// The channel that is not.
     pub draft: Option<Draft>,
+    /// The steps so far.
     pub schedule: Steps,
     /// The pieces of all bodies.
     pub pieces: u32,
