@@ -1,3 +1,1 @@
 mod HeadFields
-pub mod Released
-pub mod Targets

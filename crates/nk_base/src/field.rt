@@ -183,7 +183,9 @@ fn is_space(end: Option<u8>) -> bool
 /// A header field, good or not.
 #[derive(Drop)]
 pub struct Field {
+    /// Its name, in lower case.
     pub name: Name,
+    /// Its value.
     pub value: Value,
 }
 

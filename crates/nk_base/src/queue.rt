@@ -5,7 +5,9 @@ use crate::status::Target;
 /// Where an event runs: on a target of its own, or where the channel's data is delivered at the moment it is asked.
 #[derive(Clone, Copy, Debug, Drop, PartialEq, Eq)]
 pub enum Class {
+    /// On this target.
     Fixed(Target),
+    /// Where data is delivered when it is asked.
     Delivery,
 }
 

@@ -11,7 +11,9 @@ pub struct Memory;
 /// What a step did: it was made, or it was not enabled and changed nothing. This project's own.
 #[derive(Clone, Copy, Debug, Drop, PartialEq, Eq)]
 pub enum Moved {
+    /// It was made.
     Did,
+    /// It was not enabled, and nothing changed.
     Idle,
 }
 
@@ -64,8 +66,11 @@ impl Status {
 /// the background lane. After Firefox's event targets.
 #[derive(Clone, Copy, Debug, Drop, PartialEq, Eq)]
 pub enum Target {
+    /// The page's main thread.
     Main,
+    /// The worker of this number, from 1 to 16.
     Worker(u8),
+    /// The thread of the background lane.
     Back,
 }
 

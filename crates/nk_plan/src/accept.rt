@@ -12,31 +12,31 @@ use crate::plan::{
 use http::StatusCode;
 use nk_base::{Fields, Piece};
 
-/// The most hops of a plan.
-const MOST_HOPS: usize = 32;
-
-/// The most pieces of a body.
-const MOST_PIECES: usize = 65_536;
-
-/// The most bytes of a body.
-const MOST_BYTES: u64 = 67_108_864;
-
-/// The most reactions of a plan, and the most calls of its page.
-const MOST_ITEMS: usize = 64;
-
-/// The most segments that a pipe's readers may go through, all together.
-const MOST_SEGMENTS_READ: u64 = 1_000_000;
-
-/// The most bytes that a pipe's readers may read, all together.
-const MOST_BYTES_READ: u64 = 134_217_728;
-
-/// The most callbacks that a call of the page may wait for.
-const MOST_AFTER: u32 = 100_000;
-
-/// The largest window.
-const MOST_WINDOW: u32 = 16_777_216;
-
 impl ChannelPlan {
+    /// The most hops of a plan.
+    pub const MOST_HOPS: usize = 32;
+
+    /// The most pieces of a body.
+    pub const MOST_PIECES: usize = 65_536;
+
+    /// The most bytes of a body.
+    pub const MOST_BYTES: u64 = 67_108_864;
+
+    /// The most reactions of a plan, and the most calls of its page.
+    pub const MOST_CALLS: usize = 64;
+
+    /// The most segments that a pipe's readers may go through, all together.
+    pub const MOST_SEGMENTS_READ: u64 = 1_000_000;
+
+    /// The most bytes that a pipe's readers may read, all together.
+    pub const MOST_BYTES_READ: u64 = 134_217_728;
+
+    /// The most callbacks that a call of the page may wait for.
+    pub const MOST_AFTER: u32 = 100_000;
+
+    /// The largest window, in bytes.
+    pub const MOST_WINDOW: u32 = 16_777_216;
+
     /// The plan with these parts. It is refused by the first row of `PlanError`, in the order of its variants, that the
     /// parts do not pass. It takes no memory; on a refusal the parts are dropped.
     pub fn new(
@@ -92,7 +92,7 @@ impl ChannelPlan {
         if count == 0 {
             return Err(PlanError::NoHop);
         }
-        if count > MOST_HOPS {
+        if count > ChannelPlan::MOST_HOPS {
             return Err(PlanError::TooManyHops(count));
         }
         Ok(())
@@ -133,11 +133,11 @@ impl ChannelPlan {
         ensures err { IfErr result (IsRefusedFrom self.now 5) }
     {
         let body = self.body();
-        if body.len() > MOST_PIECES {
+        if body.len() > ChannelPlan::MOST_PIECES {
             return Err(PlanError::TooManyPieces(body.len()));
         }
         let size = total(body);
-        if size > MOST_BYTES {
+        if size > ChannelPlan::MOST_BYTES {
             return Err(PlanError::TooManyBytes(size));
         }
         Ok(size)
@@ -184,7 +184,7 @@ impl ChannelPlan {
         ensures ok { OnOk result (PassesRows self.now 10 11) }
         ensures err { IfErr result (IsRefusedFrom self.now 10) }
     {
-        if self.window < 1 || self.window > MOST_WINDOW {
+        if self.window < 1 || self.window > ChannelPlan::MOST_WINDOW {
             return Err(PlanError::BadWindow);
         }
         Ok(())
@@ -232,7 +232,7 @@ fn first_bad_reaction(reactions: &[Reaction]) -> Option<usize>
     ensures first { IfSome result (IsFirstBeyond 64 IsGoodReaction reactions.now) }
 {
     for (i, reaction) in reactions.iter().enumerate() {
-        if i == MOST_ITEMS || !reaction.is_good() {
+        if i == ChannelPlan::MOST_CALLS || !reaction.is_good() {
             return Some(i);
         }
     }
@@ -246,7 +246,7 @@ fn first_bad_control(controls: &[Control], closed: bool) -> Option<usize>
     ensures first { IfSome result (IsFirstBeyond 64 (IsGoodControl closed) controls.now) }
 {
     for (i, control) in controls.iter().enumerate() {
-        if i == MOST_ITEMS || !control.is_good(closed) {
+        if i == ChannelPlan::MOST_CALLS || !control.is_good(closed) {
             return Some(i);
         }
     }
@@ -353,8 +353,8 @@ impl ListenerKind {
                     && *limit <= 1_024
                     && 1 <= *readers
                     && *readers <= 8
-                    && read.div_ceil(*segment as u64) <= MOST_SEGMENTS_READ
-                    && read <= MOST_BYTES_READ
+                    && read.div_ceil(*segment as u64) <= ChannelPlan::MOST_SEGMENTS_READ
+                    && read <= ChannelPlan::MOST_BYTES_READ
             }
         }
     }
@@ -397,6 +397,6 @@ impl Control {
     fn is_good(&self, closed: bool) -> bool
         ensures { IsTrue result ↔ IsGoodControl closed self.now }
     {
-        !closed && self.after <= MOST_AFTER && self.act.is_good()
+        !closed && self.after <= ChannelPlan::MOST_AFTER && self.act.is_good()
     }
 }

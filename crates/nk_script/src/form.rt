@@ -14,7 +14,7 @@ ghost use Rattle.nk_script.specs.Lines.{IsWorkerWord, IsTargetWord, IsHop, IsEnd
 use crate::line::HopLine;
 use crate::number::{read_decimal, read_status};
 use nk_base::Target;
-use nk_plan::{Act, Control, Finish, ListenerKind, Reaction, Step, Verdict};
+use nk_plan::{Act, ChannelPlan, Control, Finish, ListenerKind, Reaction, Step, Verdict};
 
 // A worker, `w1` to `w16`.
 fn read_worker(word: &str) -> Option<u8>
@@ -130,7 +130,7 @@ pub(crate) fn read_control(words: &[&str]) -> Option<Control>
 {
     match words {
         [after, act @ ..] => Some(Control {
-            after: read_decimal(after.as_bytes(), 0, 100_000)?,
+            after: read_decimal(after.as_bytes(), 0, ChannelPlan::MOST_AFTER)?,
             act: read_act(act)?,
         }),
         [] => None,

@@ -9,29 +9,17 @@ use crate::draft::Draft;
 use crate::line::{HopLine, Line, Place};
 use crate::script::Steps;
 use nk_base::{Fields, Memory, Piece};
-use nk_plan::{Finish, ListenerKind, Plans};
+use nk_plan::{ChannelPlan, Finish, ListenerKind, Plans};
 use std::alloc::Global;
 
 /// The most channels of a script.
 const MOST_CHANNELS: usize = 1024;
-
-/// The most hops of a channel.
-const MOST_HOPS: usize = 32;
-
-/// The most pieces of a response.
-const MOST_PIECES_OF_BODY: usize = 65_536;
 
 /// The most pieces of a script.
 const MOST_PIECES: u32 = 262_144;
 
 /// The most body bytes of a script.
 const MOST_BYTES: u32 = 67_108_864;
-
-/// The most reactions, and the most controls, of a channel.
-const MOST_CALLS: usize = 64;
-
-/// The most segments that the readers of a listener read.
-const MOST_SEGMENTS: u64 = 1_000_000;
 
 /// The most bytes that the readers of all listeners read.
 const MOST_READ: u64 = 134_217_728;
@@ -146,8 +134,8 @@ impl Reader {
             Line::Piece(piece) => self.is_piece_within(piece),
             Line::Trailer(_) => self.trailers() < Fields::MOST,
             Line::Listener(listener) => self.is_listener_within(listener),
-            Line::Reaction(_) => self.reactions() < MOST_CALLS,
-            Line::Control(_) => self.controls() < MOST_CALLS,
+            Line::Reaction(_) => self.reactions() < ChannelPlan::MOST_CALLS,
+            Line::Control(_) => self.controls() < ChannelPlan::MOST_CALLS,
             Line::Step(_) => self.schedule.len() < MOST_STEPS,
             Line::Script => true,
             Line::End(_) => true,
@@ -165,7 +153,7 @@ impl Reader {
     {
         match hop {
             HopLine::Fail(_) => true,
-            HopLine::Redirect { .. } => self.hops() < MOST_HOPS - 1,
+            HopLine::Redirect { .. } => self.hops() < ChannelPlan::MOST_HOPS - 1,
             HopLine::Response(_) => true,
         }
     }
@@ -174,7 +162,7 @@ impl Reader {
         ensures { result ≡ is_piece_within self.now piece.now }
     {
         let size = piece.size();
-        self.pieces_of_body() < MOST_PIECES_OF_BODY
+        self.pieces_of_body() < ChannelPlan::MOST_PIECES
             && self.pieces < MOST_PIECES
             && self.bytes <= MOST_BYTES - size
     }
@@ -192,7 +180,7 @@ impl Reader {
             } => {
                 let read = u64::from(*readers) * self.size();
                 let segment = u64::from(*segment);
-                read / segment + (read % segment).min(1) <= MOST_SEGMENTS
+                read / segment + (read % segment).min(1) <= ChannelPlan::MOST_SEGMENTS_READ
                     && read <= MOST_READ
                     && u64::from(self.read) <= MOST_READ - read
             }

@@ -11,6 +11,7 @@ use crate::line::Line;
 use crate::number::{read_byte, read_decimal};
 use crate::script::ScheduleItem;
 use nk_base::{Memory, Piece};
+use nk_plan::ChannelPlan;
 use std::alloc::Global;
 
 // `hop ..`
@@ -52,7 +53,11 @@ pub(crate) fn read_window_line(words: &[&str]) -> Option<Line>
     ensures each { (line : AnyLine) → IsWindowLine (map (λ word. word.now) words.now) line → result ≡ Some line }
 {
     match *words {
-        ["window", size] => Some(Line::Window(read_decimal(size.as_bytes(), 1, 16_777_216)?)),
+        ["window", size] => Some(Line::Window(read_decimal(
+            size.as_bytes(),
+            1,
+            ChannelPlan::MOST_WINDOW,
+        )?)),
         _ => None,
     }
 }

@@ -1,25 +1,13 @@
 // The writer of the report: one buffer of bytes, and how numbers, statuses and bytes stand in it.
 
 ghost use Rattle.std.specs.Prelude.{◌≡◌, ◌++◌, ◌∷◌, [], decimal, OnOk};
-ghost use Rattle.nk_trace.specs.Words.{line, code_text, hex_byte as digits_of, hex_text, status_text};
+ghost use Rattle.nk_trace.specs.Words.{line, code_text, hex_byte, hex_text, status_text};
 
+use hex::encode_to_slice;
 use itoa::Buffer;
 use nk_base::{Memory, Status};
 use std::alloc::Global;
 use std::marker::Model;
-
-const HEX_DIGITS: &[u8; 16] = b"0123456789abcdef";
-
-/// The two hexadecimal digits of a byte.
-#[tactic(auto, unfolding(crate::specs::Words::hex_digit))]
-fn hex_byte(byte: u8) -> [u8; 2]
-    ensures { result ≡ digits_of byte }
-{
-    [
-        HEX_DIGITS[(byte / 16) as usize],
-        HEX_DIGITS[(byte % 16) as usize],
-    ]
-}
 
 /// A text as far as it is printed. After want of memory it may be cut at any byte. This project's own.
 #[derive(Drop)]
@@ -92,21 +80,32 @@ impl Printer {
     }
 
     /// Prints bytes, as two hexadecimal digits each.
-    #[tactic(auto, using(std::proofs::lemmas::List::flat_map_more, std::proofs::lemmas::List::take_more))]
     pub(crate) fn hex(&mut self, bytes: &[u8]) -> Result<(), Memory>
         ensures { OnOk result (self.new ≡ self.old ++ hex_text bytes.now) }
     {
-        for byte in bytes {
-            self.bytes(&hex_byte(*byte))?;
+        let start = self.bytes.len();
+        let Some(end) = bytes
+            .len()
+            .checked_mul(2)
+            .and_then(|digits| digits.checked_add(start))
+        else {
+            return Err(Memory);
+        };
+        match self.bytes.resize(end, 0) {
+            Ok(()) => {}
+            Err(_) => return Err(Memory),
         }
-        Ok(())
+        match encode_to_slice(bytes, &mut self.bytes[start..]) {
+            Ok(()) => Ok(()),
+            Err(_) => Err(Memory),
+        }
     }
 
     /// Prints the kind of a message, as two hexadecimal digits.
     pub fn kind(&mut self, kind: u8) -> Result<(), Memory>
-        ensures { OnOk result (self.new ≡ self.old ++ digits_of kind) }
+        ensures { OnOk result (self.new ≡ self.old ++ hex_byte kind) }
     {
-        self.bytes(&hex_byte(kind))
+        self.hex(&[kind])
     }
 
     /// Prints a status, as eight hexadecimal digits.

@@ -45,5 +45,6 @@ pub enum FrameCause {
 pub struct FrameError {
     /// The number of bytes before the frame.
     pub offset: u64,
+    /// What is wrong with it.
     pub cause: FrameCause,
 }

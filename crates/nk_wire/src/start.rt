@@ -14,8 +14,11 @@ use std::alloc::Global;
 /// The fields of a start.
 #[derive(Drop)]
 pub struct Start {
+    /// The hop that it is of.
     pub hop: u32,
+    /// How it stands with the load.
     pub status: Status,
+    /// The head of the response.
     pub head: Head,
 }
 
