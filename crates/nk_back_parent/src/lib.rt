@@ -5,6 +5,3 @@
 mod back_parent;
 
 pub use back_parent::BackParent;
-
-#[cfg(test)]
-mod tests;

@@ -18,6 +18,3 @@ pub use out::{Out, OutList, Ranged};
 pub use piece::{ByteList, Piece, PieceError};
 pub use queue::{Class, Classed};
 pub use status::{Memory, Moved, RetargetError, Status, Target};
-
-#[cfg(test)]
-mod tests;

@@ -5,6 +5,3 @@
 mod first;
 
 pub use first::First;
-
-#[cfg(test)]
-mod tests;

@@ -201,36 +201,3 @@ impl<T> Chain<T> {
         &mut self.nodes[place.0].item
     }
 }
-
-#[cfg(test)]
-mod tests {
-    use super::*;
-    use std::test::Fail;
-
-    #[test]
-    fn chain_calls(rt: HostRuntime) -> Result<(), Fail> {
-        let mut chain = Chain::new(rt.alloc());
-        chain.reserve(3)?;
-        let one = chain.push_back(1u32);
-        let two = chain.push_back(2);
-        let zero = chain.push_front(0);
-
-        assert_eq!(rt; chain.first(), Some(zero));
-        assert_eq!(rt; chain.next(zero), Some(one));
-        assert_eq!(rt; chain.next(one), Some(two));
-        assert_eq!(rt; chain.next(two), None);
-        assert_eq!(rt;
-            (*chain.get(zero), *chain.get(one), *chain.get(two)),
-            (0, 1, 2)
-        );
-
-        assert_eq!(rt; chain.pop_front(), Some(0));
-        assert_eq!(rt; *chain.get(one), 1);
-        assert_eq!(rt; *chain.get(two), 2);
-        *chain.get_mut(two) = 7;
-        assert_eq!(rt; chain.pop_front(), Some(1));
-        assert_eq!(rt; chain.pop_front(), Some(7));
-        assert_eq!(rt; chain.pop_front(), None);
-        Ok(())
-    }
-}

@@ -1,6 +1,7 @@
 pub mod Acts
 pub mod Backs
 pub mod Begun
+pub mod Breaking
 pub mod Counts
 pub mod Ends
 pub mod Gains

@@ -97,7 +97,7 @@ impl Work {
     }
 
     /// The parent process is gone: what waits is dropped, and the load ends with this failure.
-    #[tactic(auto, using(crate::proofs::Same::start_twice, crate::proofs::Same::stop_twice, crate::proofs::Gains::gains_none, crate::proofs::Gains::gains_then))]
+    #[tactic(auto, using(crate::proofs::Same::start_twice, crate::proofs::Same::stop_twice, crate::proofs::Gains::gains_none))]
     pub(crate) fn break_off<D: Out<Entry>>(
         &mut self,
         status: Status,

@@ -206,7 +206,6 @@ impl Work {
     }
 
     /// A data callback fails on the main target: the channel is cancelled.
-    #[tactic(auto, using(crate::proofs::Gains::gains_two))]
     fn fail_on_main<U: Out<UpMsg>>(
         &mut self,
         count: u32,

@@ -79,7 +79,6 @@ impl Work {
     }
 
     /// A failed opening is a start and a stop.
-    #[tactic(auto, using(crate::proofs::Gains::gains_then))]
     fn take_failed<D: Out<Entry>>(
         &mut self,
         hop: u32,

@@ -19,6 +19,3 @@ mod verdict;
 mod work;
 
 pub use child::Child;
-
-#[cfg(test)]
-mod tests;

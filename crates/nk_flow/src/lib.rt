@@ -5,6 +5,3 @@
 mod window;
 
 pub use window::Window;
-
-#[cfg(test)]
-mod tests;

@@ -4,8 +4,6 @@
 mod draws;
 mod make;
 mod tally;
-#[cfg(test)]
-mod tests;
 
 pub use make::make_script;
 pub use tally::summary;

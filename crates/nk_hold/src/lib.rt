@@ -10,6 +10,3 @@ mod kept;
 
 pub use hold::{Held, Hold, Released};
 pub use kept::Kept;
-
-#[cfg(test)]
-mod tests;

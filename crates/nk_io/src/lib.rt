@@ -9,8 +9,6 @@ mod memory_source;
 mod sink;
 mod source;
 mod standard;
-#[cfg(test)]
-mod tests;
 mod whole;
 
 pub use memory_sink::{MemSink, SureSink};

@@ -6,6 +6,3 @@ mod load;
 mod parent;
 
 pub use parent::Parent;
-
-#[cfg(test)]
-mod tests;

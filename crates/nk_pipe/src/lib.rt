@@ -24,6 +24,3 @@ mod store;
 
 pub use answer::{CloneError, NoReader, Read, Write};
 pub use pipe::Pipe;
-
-#[cfg(test)]
-mod tests;

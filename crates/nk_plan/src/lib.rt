@@ -18,6 +18,3 @@ pub use plan::{
     Reaction, Reactions, StartLane, Verdict,
 };
 pub use step::{ChildStep, ParentStep, Phase, Step};
-
-#[cfg(test)]
-mod tests;

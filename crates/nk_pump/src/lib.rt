@@ -7,6 +7,3 @@ mod stream;
 
 pub use pump::{Pump, Turn};
 pub use stream::{PumpStream, Read};
-
-#[cfg(test)]
-mod tests;

@@ -7,8 +7,6 @@ ghost use Rattle.nk_queue.specs.Calls.{MayCallAll, call_answers, calls_leave};
 mod body;
 mod call;
 mod plain;
-#[cfg(test)]
-mod tests;
 
 pub use body::QueueBody;
 pub use call::{QueueAnswer, QueueCall};

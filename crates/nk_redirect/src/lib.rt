@@ -8,6 +8,3 @@ mod parent_half;
 
 pub use child_half::{Answer, ChildHalf};
 pub use parent_half::{Begin, ParentHalf, Verified};
-
-#[cfg(test)]
-mod tests;

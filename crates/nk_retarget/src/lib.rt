@@ -7,6 +7,3 @@ mod view;
 
 pub use delivery::Delivery;
 pub use view::ChannelView;
-
-#[cfg(test)]
-mod tests;

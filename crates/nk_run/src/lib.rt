@@ -8,25 +8,9 @@ mod bad_frame;
 mod ends;
 mod failure;
 mod frames;
-#[cfg(test)]
-mod frames_tests;
-#[cfg(test)]
-mod hostile_tests;
 mod input;
-#[cfg(test)]
-mod log_tests;
 mod made;
-#[cfg(test)]
-mod made_tests;
-#[cfg(test)]
-mod memory_tests;
-#[cfg(test)]
-mod page_tests;
 mod play;
-#[cfg(test)]
-mod play_tests;
 mod run;
-#[cfg(test)]
-mod tests;
 
 pub use run::{refuse_words, run_alone};

@@ -1,5 +1,6 @@
 -- A line begins with one keyword.
-use Rattle.std.proofs.Common.{◌≡◌, ℕ, ◌+◌, ◌==◌, if◌then◌else◌, ◌⊎◌, inl, inr, Bool, true, false, List, [], ◌∷◌, codes, refl, sym, ap, subst, ◌∙◌}
+use Rattle.std.proofs.Common.{◌≡◌, ℕ, ◌+◌, ◌==◌, if◌then◌else◌, ◌⊎◌, inl, inr, false, List, [], ◌∷◌, Option, Some, None, codes, refl, sym, ap, subst, ◌∙◌}
+use Rattle.std.specs.Prelude.{MatchOption}
 use Rattle.std.specs.List.{list_all}
 use Rattle.nk_script.specs.declared.line.Keyword.{Keyword}
 use Rattle.nk_script.specs.declared.line.Keyword.TheVariants as key
@@ -85,3 +86,8 @@ both word j k a b (inr d) e = d ∙ sym (named_or_counted word k b (counted word
 
 pub one_keyword : (word : List ℕ) (j k : Keyword) → IsKeyword word j → IsKeyword word k → j ≡ k
 one_keyword word j k a b = both word j k a b (told word j a) (told word k b)
+
+-- a word that is no number has one keyword at most, and it was found
+pub found_named : (word : List ℕ) (found : Option Keyword) → MatchOption found ((k : Keyword) → IsKeyword word k → k ≡ key.Number) (IsKeyword word) → ¬ IsCount word → (k : Keyword) → IsKeyword word k → found ≡ Some k
+found_named word None none not_count k is = absurd (not_count (counted word k (none k is) is))
+found_named word (Some j) named not_count k is = ap Some (one_keyword word j k named is)

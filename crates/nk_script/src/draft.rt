@@ -232,9 +232,8 @@ impl Draft {
         requires room { response_count (λ s. length s.fields) self.old < 64 }
         ensures { OnOk result (self.new ≡ with_response (λ s. record s { fields = s.fields ++ field ∷ [] }) self.old) }
     {
-        if let Some(mut response) = self.response.take() {
+        if let Some(response) = &mut self.response {
             response.add_field(field)?;
-            self.response = Some(response);
         }
         Ok(())
     }
@@ -244,9 +243,8 @@ impl Draft {
         requires { response_count (λ s. length s.pieces) self.old < 65536 }
         ensures { OnOk result (self.new ≡ with_response (λ s. record s { pieces = s.pieces ++ piece ∷ []; size = s.size + length piece }) self.old) }
     {
-        if let Some(mut response) = self.response.take() {
+        if let Some(response) = &mut self.response {
             response.add_piece(piece)?;
-            self.response = Some(response);
         }
         Ok(())
     }
@@ -255,9 +253,8 @@ impl Draft {
     pub fn set_finish(&mut self, finish: Finish)
         ensures { self.new ≡ with_response (λ s. record s { finish = finish }) self.old }
     {
-        if let Some(mut response) = self.response.take() {
+        if let Some(response) = &mut self.response {
             response.set_finish(finish);
-            self.response = Some(response);
         }
     }
 
@@ -265,9 +262,8 @@ impl Draft {
     pub fn add_trailer(&mut self, trailer: Field) -> Result<(), Memory>
         ensures { OnOk result (self.new ≡ with_response (λ s. record s { trailers = s.trailers ++ trailer ∷ [] }) self.old) }
     {
-        if let Some(mut response) = self.response.take() {
+        if let Some(response) = &mut self.response {
             response.add_trailer(trailer)?;
-            self.response = Some(response);
         }
         Ok(())
     }

@@ -1,6 +1,6 @@
 // What the words of a line say.
 
-ghost use Rattle.std.specs.Prelude.{◌≡◌, ℕ, map, Some, IfSome};
+ghost use Rattle.std.specs.Prelude.{◌≡◌, ◌∷◌, [], ℕ, map, codes, Some, IfSome};
 ghost use Rattle.nk_base.specs.declared.status.Target.{Target as AnyTarget};
 ghost use Rattle.nk_plan.specs.declared.plan.Act.{Act as AnyAct};
 ghost use Rattle.nk_plan.specs.declared.plan.Control.{Control as AnyControl};
@@ -44,20 +44,45 @@ pub(crate) fn read_hop(words: &[&str]) -> Option<HopLine>
     ensures each { (hop : AnyHop) → IsHop (map (λ word. word.now) words.now) hop → result ≡ Some hop }
 {
     match *words {
-        ["fail", status] => Some(HopLine::Fail(read_status(status.as_bytes())?)),
-        ["redirect", code, "allow"] => Some(HopLine::Redirect {
-            code: read_decimal(code.as_bytes(), 300, 399)? as u16,
-            verdict: Verdict::Allow,
-        }),
-        ["redirect", code, "veto", status] => Some(HopLine::Redirect {
-            code: read_decimal(code.as_bytes(), 300, 399)? as u16,
-            verdict: Verdict::Veto(read_status(status.as_bytes())?),
-        }),
-        ["response", code] => Some(HopLine::Response(
-            read_decimal(code.as_bytes(), 100, 999)? as u16,
-        )),
+        [kind, argument] => read_last_hop(kind, argument),
+        ["redirect", code, "allow"] => read_allowed_redirect(code),
+        ["redirect", code, "veto", status] => read_vetoed_redirect(code, status),
         _ => None,
     }
+}
+
+// `fail STATUS` or `response CODE`.
+fn read_last_hop(kind: &str, argument: &str) -> Option<HopLine>
+    ensures hop { IfSome result (IsHop (kind.now ∷ argument.now ∷ [])) }
+    ensures each { (hop : AnyHop) → IsHop (kind.now ∷ argument.now ∷ []) hop → result ≡ Some hop }
+{
+    match kind {
+        "fail" => Some(HopLine::Fail(read_status(argument.as_bytes())?)),
+        "response" => Some(HopLine::Response(read_decimal(argument.as_bytes(), 100, 999)? as u16)),
+        _ => None,
+    }
+}
+
+// `redirect CODE allow`.
+fn read_allowed_redirect(code: &str) -> Option<HopLine>
+    ensures hop { IfSome result (IsHop (codes "redirect" ∷ code.now ∷ codes "allow" ∷ [])) }
+    ensures each { (hop : AnyHop) → IsHop (codes "redirect" ∷ code.now ∷ codes "allow" ∷ []) hop → result ≡ Some hop }
+{
+    Some(HopLine::Redirect {
+        code: read_decimal(code.as_bytes(), 300, 399)? as u16,
+        verdict: Verdict::Allow,
+    })
+}
+
+// `redirect CODE veto STATUS`.
+fn read_vetoed_redirect(code: &str, status: &str) -> Option<HopLine>
+    ensures hop { IfSome result (IsHop (codes "redirect" ∷ code.now ∷ codes "veto" ∷ status.now ∷ [])) }
+    ensures each { (hop : AnyHop) → IsHop (codes "redirect" ∷ code.now ∷ codes "veto" ∷ status.now ∷ []) hop → result ≡ Some hop }
+{
+    Some(HopLine::Redirect {
+        code: read_decimal(code.as_bytes(), 300, 399)? as u16,
+        verdict: Verdict::Veto(read_status(status.as_bytes())?),
+    })
 }
 
 // The words behind `end`.
@@ -79,13 +104,21 @@ pub(crate) fn read_listener(words: &[&str]) -> Option<ListenerKind>
 {
     match *words {
         ["plain"] => Some(ListenerKind::Plain),
-        ["pipe", segment, limit, readers] => Some(ListenerKind::Pipe {
-            segment: read_decimal(segment.as_bytes(), 4, 65_536)?,
-            limit: read_decimal(limit.as_bytes(), 1, 1024)?,
-            readers: read_decimal(readers.as_bytes(), 1, 8)? as u8,
-        }),
+        ["pipe", segment, limit, readers] => read_pipe(segment, limit, readers),
         _ => None,
     }
+}
+
+// `pipe SEGMENT LIMIT READERS`.
+fn read_pipe(segment: &str, limit: &str, readers: &str) -> Option<ListenerKind>
+    ensures listener { IfSome result (IsListener (codes "pipe" ∷ segment.now ∷ limit.now ∷ readers.now ∷ [])) }
+    ensures each { (listener : AnyListener) → IsListener (codes "pipe" ∷ segment.now ∷ limit.now ∷ readers.now ∷ []) listener → result ≡ Some listener }
+{
+    Some(ListenerKind::Pipe {
+        segment: read_decimal(segment.as_bytes(), 4, 65_536)?,
+        limit: read_decimal(limit.as_bytes(), 1, 1024)?,
+        readers: read_decimal(readers.as_bytes(), 1, 8)? as u8,
+    })
 }
 
 // The words behind `at`.
@@ -94,18 +127,35 @@ pub(crate) fn read_reaction(words: &[&str]) -> Option<Reaction>
     ensures each { (reaction : AnyReaction) → IsReaction (map (λ word. word.now) words.now) reaction → result ≡ Some reaction }
 {
     match *words {
-        ["start", "retarget", worker] => Some(Reaction::StartRetarget(read_worker(worker)?)),
         ["start", "suspend"] => Some(Reaction::StartSuspend),
-        ["start", "cancel", status] => {
-            Some(Reaction::StartCancel(read_status(status.as_bytes())?))
-        }
-        ["start", "fail", status] => Some(Reaction::StartFail(read_status(status.as_bytes())?)),
-        ["data", nth, "fail", status] => Some(Reaction::BytesFail {
-            nth: read_decimal(nth.as_bytes(), 1, 65_536)?,
-            status: read_status(status.as_bytes())?,
-        }),
+        ["start", call, argument] => read_start(call, argument),
+        ["data", nth, "fail", status] => read_bytes_fail(nth, status),
         _ => None,
     }
+}
+
+// `start CALL ARGUMENT`.
+fn read_start(call: &str, argument: &str) -> Option<Reaction>
+    ensures reaction { IfSome result (IsReaction (codes "start" ∷ call.now ∷ argument.now ∷ [])) }
+    ensures each { (reaction : AnyReaction) → IsReaction (codes "start" ∷ call.now ∷ argument.now ∷ []) reaction → result ≡ Some reaction }
+{
+    match call {
+        "retarget" => Some(Reaction::StartRetarget(read_worker(argument)?)),
+        "cancel" => Some(Reaction::StartCancel(read_status(argument.as_bytes())?)),
+        "fail" => Some(Reaction::StartFail(read_status(argument.as_bytes())?)),
+        _ => None,
+    }
+}
+
+// `data NTH fail STATUS`.
+fn read_bytes_fail(nth: &str, status: &str) -> Option<Reaction>
+    ensures reaction { IfSome result (IsReaction (codes "data" ∷ nth.now ∷ codes "fail" ∷ status.now ∷ [])) }
+    ensures each { (reaction : AnyReaction) → IsReaction (codes "data" ∷ nth.now ∷ codes "fail" ∷ status.now ∷ []) reaction → result ≡ Some reaction }
+{
+    Some(Reaction::BytesFail {
+        nth: read_decimal(nth.as_bytes(), 1, 65_536)?,
+        status: read_status(status.as_bytes())?,
+    })
 }
 
 // The words of a call of the page.
@@ -116,9 +166,20 @@ fn read_act(words: &[&str]) -> Option<Act>
     match *words {
         ["suspend"] => Some(Act::Suspend),
         ["resume"] => Some(Act::Resume),
-        ["cancel", status] => Some(Act::Cancel(read_status(status.as_bytes())?)),
-        ["retarget", worker] => Some(Act::Retarget(read_worker(worker)?)),
-        ["break", status] => Some(Act::Break(read_status(status.as_bytes())?)),
+        [call, argument] => read_act_with(call, argument),
+        _ => None,
+    }
+}
+
+// A call of the page that has an argument.
+fn read_act_with(call: &str, argument: &str) -> Option<Act>
+    ensures act { IfSome result (IsAct (call.now ∷ argument.now ∷ [])) }
+    ensures each { (act : AnyAct) → IsAct (call.now ∷ argument.now ∷ []) act → result ≡ Some act }
+{
+    match call {
+        "cancel" => Some(Act::Cancel(read_status(argument.as_bytes())?)),
+        "retarget" => Some(Act::Retarget(read_worker(argument)?)),
+        "break" => Some(Act::Break(read_status(argument.as_bytes())?)),
         _ => None,
     }
 }
@@ -143,17 +204,39 @@ pub(crate) fn read_step(words: &[&str]) -> Option<Step>
     ensures each { (step : AnyStep) → IsStep (map (λ word. word.now) words.now) step → result ≡ Some step }
 {
     match *words {
-        ["act"] => Some(Step::Act),
-        ["verdict"] => Some(Step::Verdict),
-        ["fetch"] => Some(Step::Fetch),
-        ["up"] => Some(Step::Up),
-        ["forward"] => Some(Step::Forward),
-        ["main"] => Some(Step::Main),
-        ["back"] => Some(Step::Back),
-        ["release"] => Some(Step::Release),
-        ["begin", target] => Some(Step::Begin(read_target(target)?)),
-        ["finish", target] => Some(Step::Finish(read_target(target)?)),
-        ["read", reader] => Some(Step::Read(read_decimal(reader.as_bytes(), 1, 8)? as u8)),
+        [step] => read_plain_step(step),
+        [step, argument] => read_step_with(step, argument),
+        _ => None,
+    }
+}
+
+// A step that has no argument.
+fn read_plain_step(word: &str) -> Option<Step>
+    ensures step { IfSome result (IsStep (word.now ∷ [])) }
+    ensures each { (step : AnyStep) → IsStep (word.now ∷ []) step → result ≡ Some step }
+{
+    match word {
+        "act" => Some(Step::Act),
+        "verdict" => Some(Step::Verdict),
+        "fetch" => Some(Step::Fetch),
+        "up" => Some(Step::Up),
+        "forward" => Some(Step::Forward),
+        "main" => Some(Step::Main),
+        "back" => Some(Step::Back),
+        "release" => Some(Step::Release),
+        _ => None,
+    }
+}
+
+// A step that has an argument.
+fn read_step_with(word: &str, argument: &str) -> Option<Step>
+    ensures step { IfSome result (IsStep (word.now ∷ argument.now ∷ [])) }
+    ensures each { (step : AnyStep) → IsStep (word.now ∷ argument.now ∷ []) step → result ≡ Some step }
+{
+    match word {
+        "begin" => Some(Step::Begin(read_target(argument)?)),
+        "finish" => Some(Step::Finish(read_target(argument)?)),
+        "read" => Some(Step::Read(read_decimal(argument.as_bytes(), 1, 8)? as u8)),
         _ => None,
     }
 }

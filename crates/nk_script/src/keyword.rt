@@ -1,8 +1,8 @@
 // The first words of lines, and where a line that begins with one may stand.
 
-ghost use Rattle.std.specs.Prelude.{◌≡◌, false, Some, IfSome};
+ghost use Rattle.std.specs.Prelude.{◌≡◌, Some, IfSome, MatchOption};
 ghost use Rattle.nk_script.specs.declared.line.Keyword.{Keyword as AnyKeyword};
-ghost use Rattle.nk_script.specs.Order.{IsKeyword, is_number, ends, from_control, from_reaction, from_closed_reaction, from_closed, from_start_lane, from_window, from_retargetable, from_listener, from_trailer, from_piece, from_field, is_script, is_channel, is_hop, allows, may_end, behind_reaction};
+ghost use Rattle.nk_script.specs.Order.{IsKeyword, ends, from_control, from_reaction, from_closed_reaction, from_closed, from_start_lane, from_window, from_retargetable, from_listener, from_trailer, from_piece, from_field, is_script, is_channel, is_hop, allows, may_end, behind_reaction};
 
 use crate::line::{Keyword, Place};
 use crate::number::is_count;
@@ -21,10 +21,9 @@ pub(crate) fn read_keyword(word: &[u8]) -> Option<Keyword>
     }
 }
 
-// The same of the keywords that are no number.
+// The keyword that the word is, where it is no number.
 fn read_named(word: &str) -> Option<Keyword>
-    ensures keyword { IfSome result (IsKeyword word.now) }
-    ensures each { (keyword : AnyKeyword) → is_number keyword ≡ false → IsKeyword word.now keyword → result ≡ Some keyword }
+    ensures { MatchOption result ((keyword : AnyKeyword) → IsKeyword word.now keyword → keyword ≡ Keyword.Number) (IsKeyword word.now) }
 {
     match word {
         "script" => Some(Keyword::Script),

@@ -14,8 +14,6 @@ mod reader;
 mod rest;
 mod script;
 mod take;
-#[cfg(test)]
-mod tests;
 mod text;
 mod worded;
 

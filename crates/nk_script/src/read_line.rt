@@ -52,7 +52,7 @@ fn read_fixed(text: &[u8], form: &[u8], line: Line) -> Option<Line>
     ensures line { IfSome result (λ found. (text.now ≡ form.now) × (found ≡ line)) }
     ensures each { text.now ≡ form.now → result ≡ Some line }
 {
-    if text == form { Some(line) } else { None }
+    (text == form).then_some(line)
 }
 
 // `hop ..`

@@ -80,9 +80,8 @@ impl Reader {
         requires { IsGoodCode hop }
         ensures { OnOk result (self.new ≡ told self.old (Line.Hop hop)) }
     {
-        if let Some(mut draft) = self.draft.take() {
+        if let Some(draft) = &mut self.draft {
             draft.add_hop(alloc, hop)?;
-            self.draft = Some(draft);
         }
         Ok(())
     }
@@ -92,9 +91,8 @@ impl Reader {
         requires within { is_within self.old (Line.Field field) ≡ true }
         ensures { OnOk result (self.new ≡ told self.old (Line.Field field)) }
     {
-        if let Some(mut draft) = self.draft.take() {
+        if let Some(draft) = &mut self.draft {
             draft.add_field(field)?;
-            self.draft = Some(draft);
         }
         Ok(())
     }
@@ -104,9 +102,8 @@ impl Reader {
         ensures { OnOk result (self.new ≡ told self.old (Line.Piece piece)) }
     {
         let size = piece.size();
-        if let Some(mut draft) = self.draft.take() {
+        if let Some(draft) = &mut self.draft {
             draft.add_piece(piece)?;
-            self.draft = Some(draft);
         }
         self.pieces += 1;
         self.bytes += size;
@@ -116,18 +113,16 @@ impl Reader {
     fn set_finish(&mut self, finish: Finish)
         ensures { self.new ≡ told self.old (Line.End finish) }
     {
-        if let Some(mut draft) = self.draft.take() {
+        if let Some(draft) = &mut self.draft {
             draft.set_finish(finish);
-            self.draft = Some(draft);
         }
     }
 
     fn add_trailer(&mut self, trailer: Field) -> Result<(), Memory>
         ensures { OnOk result (self.new ≡ told self.old (Line.Trailer trailer)) }
     {
-        if let Some(mut draft) = self.draft.take() {
+        if let Some(draft) = &mut self.draft {
             draft.add_trailer(trailer)?;
-            self.draft = Some(draft);
         }
         Ok(())
     }
@@ -140,54 +135,48 @@ impl Reader {
         if let ListenerKind::Pipe { readers, .. } = listener {
             self.read += (u64::from(readers) * self.size()) as u32;
         }
-        if let Some(mut draft) = self.draft.take() {
+        if let Some(draft) = &mut self.draft {
             draft.listener = listener;
-            self.draft = Some(draft);
         }
     }
 
     fn set_not_retargetable(&mut self)
         ensures { self.new ≡ told self.old Line.NotRetargetable }
     {
-        if let Some(mut draft) = self.draft.take() {
+        if let Some(draft) = &mut self.draft {
             draft.retargetable = false;
-            self.draft = Some(draft);
         }
     }
 
     fn set_window(&mut self, window: u32)
         ensures { self.new ≡ told self.old (Line.Window window) }
     {
-        if let Some(mut draft) = self.draft.take() {
+        if let Some(draft) = &mut self.draft {
             draft.window = window;
-            self.draft = Some(draft);
         }
     }
 
     fn set_start_back(&mut self)
         ensures { self.new ≡ told self.old Line.StartBack }
     {
-        if let Some(mut draft) = self.draft.take() {
+        if let Some(draft) = &mut self.draft {
             draft.start = StartLane::Back;
-            self.draft = Some(draft);
         }
     }
 
     fn set_closed(&mut self)
         ensures { self.new ≡ told self.old Line.Closed }
     {
-        if let Some(mut draft) = self.draft.take() {
+        if let Some(draft) = &mut self.draft {
             draft.closed = true;
-            self.draft = Some(draft);
         }
     }
 
     fn add_reaction(&mut self, reaction: Reaction) -> Result<(), Memory>
         ensures { OnOk result (self.new ≡ told self.old (Line.Reaction reaction)) }
     {
-        if let Some(mut draft) = self.draft.take() {
+        if let Some(draft) = &mut self.draft {
             draft.reactions.push(reaction)?;
-            self.draft = Some(draft);
         }
         Ok(())
     }
@@ -195,9 +184,8 @@ impl Reader {
     fn add_control(&mut self, control: Control) -> Result<(), Memory>
         ensures { OnOk result (self.new ≡ told self.old (Line.Control control)) }
     {
-        if let Some(mut draft) = self.draft.take() {
+        if let Some(draft) = &mut self.draft {
             draft.controls.push(control)?;
-            self.draft = Some(draft);
         }
         Ok(())
     }

@@ -1,6 +1,6 @@
 // Lines that are read word by word.
 
-ghost use Rattle.std.specs.Prelude.{◌≡◌, ◌≤◌, ℕ, map, replicate, Some, IfSome, IfOk, MatchOption};
+ghost use Rattle.std.specs.Prelude.{◌≡◌, ◌≤◌, ◌∷◌, [], ℕ, map, codes, replicate, Some, IfSome, IfOk, MatchOption};
 ghost use Rattle.nk_script.specs.declared.line.Line.{Line as AnyLine};
 ghost use Rattle.nk_base.specs.Pieces.{IsPiece};
 ghost use Rattle.nk_script.specs.Lines.{IsHopLine, IsFillLine, IsEndLine, IsListenerLine, IsWindowLine, IsReactionLine, IsControlLine, IsStepLine};
@@ -103,9 +103,17 @@ pub(crate) fn read_fill_line(alloc: Global, words: &[&str]) -> Result<Option<Lin
     ensures line { IfOk result (λ found. IfSome found (IsFillLine (map (λ word. word.now) words.now))) }
     ensures each { (line : AnyLine) → IsFillLine (map (λ word. word.now) words.now) line → IfOk result (λ found. found ≡ Some line) }
 {
-    let ["fill", byte, count] = *words else {
-        return Ok(None);
-    };
+    match *words {
+        ["fill", byte, count] => read_fill(alloc, byte, count),
+        _ => Ok(None),
+    }
+}
+
+// The words behind `fill`.
+fn read_fill(alloc: Global, byte: &str, count: &str) -> Result<Option<Line>, Memory>
+    ensures line { IfOk result (λ found. IfSome found (IsFillLine (codes "fill" ∷ byte.now ∷ count.now ∷ []))) }
+    ensures each { (line : AnyLine) → IsFillLine (codes "fill" ∷ byte.now ∷ count.now ∷ []) line → IfOk result (λ found. found ≡ Some line) }
+{
     let Some(byte) = read_byte(byte.as_bytes()) else {
         return Ok(None);
     };

@@ -9,6 +9,3 @@ mod walk;
 
 pub use nk_chain::Place;
 pub use segments::Segments;
-
-#[cfg(test)]
-mod tests;

@@ -12,6 +12,3 @@ mod writer;
 pub use laws::{kept_law, readers_law, reads_law};
 pub use listener::Listener;
 pub use pipe_reader::PipeReader;
-
-#[cfg(test)]
-mod tests;

@@ -5,6 +5,3 @@
 mod source;
 
 pub use source::{Next, ResponseSource};
-
-#[cfg(test)]
-mod tests;

@@ -9,8 +9,6 @@ mod channel;
 mod journal;
 mod message;
 mod printer;
-#[cfg(test)]
-mod tests;
 
 use nk_base::Memory;
 use nk_plan::{Ending, Ends};

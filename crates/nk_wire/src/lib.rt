@@ -31,6 +31,3 @@ pub use frame::Frame;
 pub use frames::Frames;
 pub use laws::{frames_are_read, none_begins_another, one_spelling, one_stands_first};
 pub use message::AnyMsg;
-
-#[cfg(test)]
-mod tests;

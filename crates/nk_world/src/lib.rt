@@ -9,6 +9,3 @@ mod world;
 
 pub use laws::drain_law;
 pub use world::World;
-
-#[cfg(test)]
-mod tests;

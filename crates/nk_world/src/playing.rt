@@ -45,17 +45,27 @@ impl Playing {
         requires { Accepted plan.now }
         ensures { IfOk result (λ r. r ≡ parts_of (new_play plan.now)) }
     {
-        Ok(Playing {
-            parent: Parent::new(alloc, plan)?,
+        let listener = Listener::new(alloc, plan.listener)?;
+        let parent = Parent::new(alloc, plan)?;
+        let child = Child::new(alloc, plan)?;
+        Ok(Playing::at_rest(alloc, parent, child, listener))
+    }
+
+    /// The channel of these parts, with nothing on its lanes.
+    fn at_rest(alloc: Global, parent: Parent, child: Child, listener: Listener) -> Playing
+        ensures { result ≡ record { parent = parent; half = 0; child = child; listener = listener; main = lane []; inner = lane []; back = lane []; up = lane []; delivery = lane [] } }
+    {
+        Playing {
+            parent,
             half: BackParent::new(),
-            child: Child::new(alloc, plan)?,
-            listener: Listener::new(alloc, plan.listener)?,
+            child,
+            listener,
             main: OutList::new(alloc),
             inner: OutList::new(alloc),
             back: OutList::new(alloc),
             up: OutList::new(alloc),
             delivery: OutList::new(alloc),
-        })
+        }
     }
 
     /// Whether a step of the channel is enabled. A read is the listener's.
@@ -281,18 +291,32 @@ impl Playing {
         requires { IsSound self }
         ensures { IfOk result (λ r. r ≡ end_of (play_of self)) }
     {
-        let ending = self.child.ending();
-        let readers = self.listener.into_ends()?;
-        let (trace, child) = self.child.into_parts();
-        Ok(ChannelEnd {
-            trace,
-            readers,
-            ending,
-            parent: self.parent.into_journal(),
-            child,
-            forwarded: self.half.count(),
-        })
+        let forwarded = self.half.count();
+        leave(self.parent, self.child, self.listener, forwarded)
     }
+}
+
+/// What these parts of a channel leave, where so many messages were forwarded.
+fn leave(
+    parent: Parent,
+    child: Child,
+    listener: Listener,
+    forwarded: usize,
+) -> Result<ChannelEnd, Memory>
+    ensures { IfOk result (λ r. r ≡ end_of (record { plan = child.plan; channel = record { parent = parent.state; forwarded = forwarded; child = child.state }; listener = listener.listener })) }
+{
+    let readers = listener.into_ends();
+    let ending = child.ending();
+    let (trace, child) = child.into_parts();
+    let parent = parent.into_journal();
+    Ok(ChannelEnd {
+        trace,
+        readers: readers?,
+        ending,
+        parent,
+        child,
+        forwarded,
+    })
 }
 
 /// Of two answers, whether one says that a step was made.

@@ -1,11 +1,11 @@
 // The world: the channels of some plans, at play.
 
-ghost use Rattle.std.specs.Prelude.{◌≡◌, ◌≤◌, length, map, false, true, All, IfOk, OnOk, OnErr};
+ghost use Rattle.std.specs.Prelude.{◌≡◌, ◌≤◌, ◌++◌, ◌∷◌, [], length, map, false, true, All, IfOk, OnOk, OnErr};
 ghost use Rattle.std.specs.List.{AllZip};
 ghost use Rattle.nk_plan.specs.Accepted.{Accepted};
 ghost use Rattle.nk_child.specs.Moved.{moved_if};
 ghost use Rattle.nk_world.specs.End.{end_of, IsEnd};
-ghost use Rattle.nk_world.specs.Parts.{play_of, IsSound, DrainsTo};
+ghost use Rattle.nk_world.specs.Parts.{play_of, new_parts, IsSound, DrainsTo};
 ghost use Rattle.nk_world.specs.Play.{IsQuiet};
 ghost use Rattle.nk_world.specs.World.{new_world, world_step, world_enabled, plans_of, AreDrained};
 
@@ -47,12 +47,7 @@ impl World {
         ensures world { IfOk result (λ w. w ≡ new_world plans) }
         ensures plans { IfOk result (λ w. plans_of w ≡ plans) }
     {
-        let mut channels = Vec::new(alloc);
-        for plan in plans.as_slice() {
-            let Ok(()) = channels.push(Playing::new(alloc, plan)?) else {
-                return Err(Memory);
-            };
-        }
+        let channels = play_all(alloc, &plans)?;
         Ok(World {
             channels,
             failed: false,
@@ -130,6 +125,28 @@ impl World {
             return Err(Memory);
         }
         take_ends(alloc, channels)
+    }
+}
+
+/// The channels of these plans, before their first step.
+fn play_all(alloc: Global, plans: &Plans) -> Result<Vec<Playing>, Memory>
+    requires { All Accepted plans.now }
+    ensures { IfOk result (λ r. r.items ≡ map new_parts plans.now) }
+{
+    let mut channels = Vec::new(alloc);
+    for plan in plans.as_slice() {
+        add(&mut channels, Playing::new(alloc, plan)?)?;
+    }
+    Ok(channels)
+}
+
+/// Adds a channel behind the others.
+fn add(channels: &mut Vec<Playing>, channel: Playing) -> Result<(), Memory>
+    ensures { OnOk result (channels.new.items ≡ channels.old.items ++ channel ∷ []) }
+{
+    match channels.push(channel) {
+        Ok(()) => Ok(()),
+        Err(_) => Err(Memory),
     }
 }
 
