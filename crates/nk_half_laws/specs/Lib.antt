@@ -1,0 +1,9 @@
+pub mod Capacity
+pub mod Falls
+pub mod Growth
+pub mod Pieces
+pub mod Ranges
+pub mod Settled
+pub mod Sums
+pub mod System
+pub mod Work

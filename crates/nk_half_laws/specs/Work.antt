@@ -1,0 +1,170 @@
+-- What each half of a channel has left to do, and what a message weighs that waits for it. Each half by itself: the parent may
+-- hear what the child never sent, and the lanes may hold anything. This project's own; any other measure that every step
+-- lowers would do as well.
+use Rattle.std.specs.Prelude.{ℕ, suc, ◌≡◌, ◌+◌, ◌-◌, ◌*◌, ◌<◌, ◌⊎◌, ◌==◌, Bool, true, false, if◌then◌else◌, List, [], ◌∷◌, length, Option, Some, None}
+use Rattle.nk_base.specs.declared.status.Target.{Target}
+use Rattle.nk_base.specs.Queue.{Queue, target_number, target_in}
+use Rattle.nk_plan.specs.declared.plan.ChannelPlan.{ChannelPlan}
+use Rattle.nk_plan.specs.declared.event.ChildEvent.{ChildEvent}
+use Rattle.nk_plan.specs.declared.event.ChildEvent.TheVariants.{Start, Bytes, Stop, Redirect1, Redirect3, Cancel}
+use Rattle.nk_plan.specs.declared.step.ChildStep.{ChildStep}
+use Rattle.nk_plan.specs.declared.step.Phase.{Phase}
+use Rattle.nk_plan.specs.declared.step.Phase.TheVariants.{Closed, Ready, Asking, Follow, Body, Done}
+use Rattle.nk_plan.specs.Accepted.{body_of}
+use Rattle.nk_plan.specs.Event.{class_of}
+use Rattle.nk_plan.specs.Journal.{mains_sent, backs_sent}
+use Rattle.nk_plan.specs.Plan.{pieces_at}
+use Rattle.nk_plan.specs.Parent.{ParentState}
+use Rattle.nk_plan.specs.Child.{ChildState, Hold}
+use Rattle.nk_plan.specs.declared.step.ChildStep.TheVariants as step
+use Rattle.nk_half_laws.specs.Sums.{sum_of}
+
+-- WEIGHTS. A message of the up lane, and an entry that is shown, weigh 2 each: the step that takes one, and one step more. A
+-- message of the main lane offers at most two events; one of the background lane one. At the parent's half it weighs one more,
+-- for the step that moves it on.
+
+abbrev pub up_weight : ℕ
+up_weight = 2
+
+abbrev pub entry_weight : ℕ
+entry_weight = 2
+
+abbrev pub main_weight : ℕ
+main_weight = 269
+
+abbrev pub back_weight : ℕ
+back_weight = 135
+
+abbrev pub half_weight : ℕ
+half_weight = 136
+
+-- THE CHILD. Each thing that is still to be done weighs more than all that the step which does it may bring.
+
+-- an event that waits brings a callback and what it shows, or the question on a redirect; a cancel brings one message
+abbrev pub event_work : ChildEvent → ℕ
+event_work (Start code s) = 133
+event_work (Bytes o p s) = 133
+event_work (Stop s) = 133
+event_work (Redirect1 h) = 133
+event_work (Redirect3 h) = 133
+event_work (Cancel s) = 3
+
+-- a callback makes at most 64 calls, one for each reaction, of which each sends one message at most; then a flush may begin
+abbrev pub running_work : Option (Target × ChildEvent) → ℕ
+running_work None = 0
+running_work (Some r) = 130
+
+-- a flush, and each task that is posted
+abbrev pub flush_work : Option Target → ℕ
+flush_work None = 0
+flush_work (Some t) = 1
+
+abbrev pub posted_work : List ℕ → ℕ
+posted_work [] = 0
+posted_work (n ∷ ns) = n + posted_work ns
+
+-- an event that is offered begins a flush or posts a task, besides what it is itself
+abbrev pub queue_work : Queue ChildEvent → ℕ
+queue_work q = sum_of event_work q.waiting + flush_work q.flushing + posted_work q.posted
+
+-- a verdict is one message
+abbrev pub question_work : Option ℕ → ℕ
+question_work None = 0
+question_work (Some h) = 3
+
+-- a report brings a release, which offers the event of each message that is kept for its hop
+abbrev pub report_work : Option ℕ → ℕ
+report_work None = 0
+report_work (Some h) = 1
+
+abbrev pub hold_work : Hold → ℕ
+hold_work hold = 134 * length hold.kept + report_work hold.report
+
+-- the opening, and the page's calls that are left; a break offers two events
+abbrev pub calls_work : ChannelPlan → Bool → ℕ → ℕ
+calls_work c false next = 269 + 269 * (length c.controls - next)
+calls_work c true next = 269 * (length c.controls - next)
+
+abbrev pub child_work : ChannelPlan → ChildState → ℕ
+child_work c s =
+    calls_work c s.opened s.next
+    + hold_work s.hold
+    + queue_work s.queue
+    + running_work s.running
+    + question_work s.question
+
+-- the child's work with all that it ever sent and showed
+abbrev pub spent : ChannelPlan → ChildState → ℕ
+spent c s = child_work c s + up_weight * length s.sent + entry_weight * length s.trace
+
+-- what all that it ever sent and showed weighs
+abbrev pub output_weight : ChildState → ℕ
+output_weight s = up_weight * length s.sent + entry_weight * length s.trace
+
+-- what the message weighs that a step of a child takes
+abbrev pub taken_weight : ChildStep → ℕ
+taken_weight step.Act = 0
+taken_weight step.Verdict = 0
+taken_weight (step.Main m) = main_weight
+taken_weight (step.Back m) = back_weight
+taken_weight step.Release = 0
+taken_weight (step.Begin t) = 0
+taken_weight (step.Finish t) = 0
+
+-- THE PARENT
+
+-- how many fetches a parent in this phase, on hop h with piece k next, can still do at most, whatever its credit: two for each
+-- hop left, one for each piece of the body, and its start and its stop
+abbrev pub fetches_in : ChannelPlan → Phase → ℕ → ℕ → ℕ
+fetches_in c Closed h k = 2 * (length c.hops - h) + length (body_of c) + 2
+fetches_in c Ready h k = 2 * (length c.hops - h) + length (body_of c) + 2
+fetches_in c Asking h k = 2 * (length c.hops - h) + length (body_of c) + 1
+fetches_in c Follow h k = 2 * (length c.hops - h) + length (body_of c) + 1
+fetches_in c Body h k = length (pieces_at c h) - k + 1
+fetches_in c Done h k = 0
+
+abbrev pub fetches_left : ChannelPlan → ParentState → ℕ
+fetches_left c p = fetches_in c p.phase p.hop p.piece
+
+-- a fetch sends at most one message on each of the two down lanes
+abbrev pub parent_work : ChannelPlan → ParentState → ℕ
+parent_work c p = 406 * fetches_left c p
+
+-- what all that it ever sent weighs
+abbrev pub sent_weight : ParentState → ℕ
+sent_weight p = main_weight * length (mains_sent p.journal) + half_weight * length (backs_sent p.journal)
+
+-- the parent's work with all that it ever sent
+abbrev pub given : ChannelPlan → ParentState → ℕ
+given c p = parent_work c p + main_weight * length (mains_sent p.journal) + half_weight * length (backs_sent p.journal)
+
+-- THE QUEUE'S NUMBER. A flush by another target than the first event's hands over; a task that has come to its turn makes
+-- a flush.
+
+-- where the first waiting event runs
+abbrev pub first_runs_on : Target → List ChildEvent → Option Target
+first_runs_on data_target [] = None
+first_runs_on data_target (e ∷ es) = Some (target_in data_target (class_of e))
+
+-- this much for the target of the first waiting event, and that much for another; where nothing waits each is another
+abbrev pub by_first : Option Target → ℕ → ℕ → ℕ → ℕ
+by_first None k own other = other
+by_first (Some t) k own other = if target_number t == k then own else other
+
+abbrev pub flush_number : Option Target → Option Target → ℕ
+flush_number first None = 0
+flush_number first (Some t) = by_first first (target_number t) 1 3
+
+-- the tasks that are posted to the targets from number k on
+abbrev pub posted_number : Option Target → ℕ → List ℕ → ℕ
+posted_number first k [] = 0
+posted_number first k (n ∷ ns) = by_first first k (2 * n) (4 * n) + posted_number first (suc k) ns
+
+abbrev pub queue_number : Queue ChildEvent → ℕ
+queue_number q =
+    flush_number (first_runs_on q.data_target q.waiting) q.flushing
+    + posted_number (first_runs_on q.data_target q.waiting) 0 q.posted
+
+-- IN ORDER. The first number falls, or stays while the second falls.
+abbrev pub IsLower : ℕ → ℕ → ℕ → ℕ → Type 0
+IsLower v' q' v q = (v' < v) ⊎ ((v' ≡ v) × (q' < q))
