@@ -1,1 +1,2 @@
 mod HeadFields
+mod OutLists

@@ -45,6 +45,27 @@ impl Work {
         self.stage_shown(e, delivery)
     }
 
+    /// The child is broken, and the first event of that is offered, once what it shows is ready.
+    fn break_now(&mut self, status: Status, e: Queued, shown: Option<Entry>)
+        requires rooms { HasRoom 2 2 self.old.rooms }
+        requires counts { Counted self.old.state }
+        requires quiet { (kept : Option Status) → event_sends kept e ≡ [] }
+        requires shown { shown ≡ offer_shown self.old.plan self.old.state.hop (merged self.old.state.kept status) (cleared self.old.state.queue) target.Main e }
+        ensures ok { Leaves 2 1 self.old self.new (offer_event self.old.plan target.Main e
+            (record self.old.state {
+              broken = true;
+              kept = merged self.old.state.kept status;
+              queue = cleared self.old.state.queue;
+              journal = self.old.state.journal ++ entry.Break status ∷ [];
+            })) }
+        ensures trace { self.new.state.trace ≡ with_shown self.old.state.trace shown }
+        ensures sent { self.new.state.sent ≡ self.old.state.sent }
+        ensures busy { is_busy self.new.state.queue ≡ true }
+    {
+        self.drop_waiting(status);
+        self.offer(Target::Main, e, shown);
+    }
+
     /// The child is broken, and the first event of that is offered.
     #[tactic(auto, using(crate::proofs::Gains::gains_shown))]
     fn break_with<D: Out<Entry>>(
@@ -74,8 +95,7 @@ impl Work {
         ensures room { D.room delivery.new + length (D.staged delivery.new) ≡ D.room delivery.old + length (D.staged delivery.old) }
     {
         let shown = self.ready_broken(status, &e, delivery)?;
-        self.drop_waiting(status);
-        self.offer(Target::Main, e, shown);
+        self.break_now(status, e, shown);
         Ok(())
     }
 

@@ -6,7 +6,7 @@ ghost use Rattle.nk_base.specs.Queue.{IsTarget, posted_to, unforced};
 ghost use Rattle.nk_base.specs.Ranges.{IsReadCount};
 ghost use Rattle.nk_base.specs.Status.{is_failure, ok};
 ghost use Rattle.nk_plan.specs.Accepted.{IsGoodReaction};
-ghost use Rattle.nk_plan.specs.Child.{react, react_all, bytes_failure, prepend_cancel, fail_data, finish_event, perform_call, child_step};
+ghost use Rattle.nk_plan.specs.Child.{react, react_all, bytes_failure, prepend_cancel, fail_data, finish_event, perform_call, runs_on, step_finish, child_step};
 ghost use Rattle.nk_plan.specs.Enabled.{child_enabled};
 ghost use Rattle.nk_plan.specs.declared.step.ChildStep.TheVariants as step;
 ghost use Rattle.nk_plan.specs.declared.event.ChildEvent.TheVariants as event;
@@ -310,6 +310,37 @@ impl Work {
         Ok(())
     }
 
+    /// The callback that runs on this target returns, and what it read or reacts with is sent.
+    #[tactic(auto, using(crate::proofs::Gains::gains_none))]
+    fn finish_running<U: Out<UpMsg>>(&mut self, t: Target, up: &mut U) -> Result<(), Memory>
+        requires here { IsTarget t }
+        requires runs { runs_on self.old.state.running t ≡ true }
+        requires rooms { HasRoom 66 2 self.old.rooms }
+        requires counts { Counted self.old.state }
+        requires up { 2 ≤ U.room up.old }
+        ensures plan { self.new.plan ≡ self.old.plan }
+        ensures state { OnOk result (self.new.state ≡ step_finish self.old.plan t self.old.state.running self.old.state) }
+        ensures sent { OnOk result (Gains self.old.state.sent self.new.state.sent (U.staged up.old) (U.staged up.new)) }
+        ensures trace { self.new.state.trace ≡ self.old.state.trace }
+        ensures err { OnErr result (self.new ≡ self.old) }
+        ensures held { U.held up.new ≡ U.held up.old }
+        ensures room { U.room up.new + length (U.staged up.new) ≡ U.room up.old + length (U.staged up.old) }
+    {
+        match &self.running {
+            None => Ok(()),
+            Some((_, ChildEvent::Start { .. })) => self.finish_start(t, up),
+            Some((_, ChildEvent::Bytes { piece, .. })) => {
+                let count = piece.size();
+                self.finish_bytes(t, count, up)
+            }
+            Some((_, ChildEvent::Stop { .. })) => self.finish_stop(t, up),
+            Some(_) => {
+                self.end_callback(t);
+                Ok(())
+            }
+        }
+    }
+
     /// The callback that runs on this target returns.
     #[tactic(auto, using(crate::proofs::Gains::gains_none))]
     pub(crate) fn finish<U: Out<UpMsg>>(&mut self, t: Target, up: &mut U) -> Result<Moved, Memory>
@@ -328,18 +359,7 @@ impl Work {
         if !self.runs_on(t) {
             return Ok(Moved::Idle);
         }
-        match &self.running {
-            None => return Ok(Moved::Idle),
-            Some((_, ChildEvent::Start { .. })) => self.finish_start(t, up)?,
-            Some((_, ChildEvent::Bytes { piece, .. })) => {
-                let count = piece.size();
-                self.finish_bytes(t, count, up)?;
-            }
-            Some((_, ChildEvent::Stop { .. })) => self.finish_stop(t, up)?,
-            Some((_, ChildEvent::Redirect1 { .. })) => self.end_callback(t),
-            Some((_, ChildEvent::Redirect3 { .. })) => self.end_callback(t),
-            Some((_, ChildEvent::Cancel { .. })) => self.end_callback(t),
-        }
+        self.finish_running(t, up)?;
         Ok(Moved::Did)
     }
 }

@@ -64,6 +64,26 @@ impl Work {
         }
     }
 
+    /// The flush by this target takes what comes next, once what that shows and sends is ready.
+    fn take_next(&mut self, t: Target, shown: Option<Entry>)
+        requires here { IsTarget t }
+        requires flushing { is_target self.old.state.queue.flushing t ≡ true }
+        requires rooms { HasRoom 2 2 self.old.rooms }
+        requires counts { Counted self.old.state }
+        requires forced { self.old.state.queue.forced ≤ 1 }
+        requires shown { shown ≡ next_shown self.old.plan self.old.state.hop self.old.state.kept (event_of (taken_by class_of self.old.state.queue t)) }
+        ensures plan { self.new.plan ≡ self.old.plan }
+        ensures state { self.new.state ≡ flush_with self.old.plan t (taken_by class_of self.old.state.queue t) self.old.state }
+        ensures sent { self.new.state.sent ≡ self.old.state.sent ++ next_sends self.old.state.kept (event_of (taken_by class_of self.old.state.queue t)) }
+        ensures trace { self.new.state.trace ≡ with_shown self.old.state.trace shown }
+    {
+        match self.queue.take(t) {
+            Taken::Event(e) => self.run(t, e.into_event(), shown),
+            Taken::HandOver(to) => self.note(ChildEntry::HandOver { from: t, to }),
+            Taken::Ended => self.note(ChildEntry::Ended(t)),
+        }
+    }
+
     /// A flush by this target goes on.
     #[tactic(auto, using(crate::proofs::Gains::gains, crate::proofs::Gains::gains_shown))]
     fn flush<U: Out<UpMsg>, D: Out<Entry>>(
@@ -90,11 +110,7 @@ impl Work {
         ensures delivery_room { D.room delivery.new + length (D.staged delivery.new) ≡ D.room delivery.old + length (D.staged delivery.old) }
     {
         let shown = self.ready_next(t, up, delivery)?;
-        match self.queue.take(t) {
-            Taken::Event(e) => self.run(t, e.into_event(), shown),
-            Taken::HandOver(to) => self.note(ChildEntry::HandOver { from: t, to }),
-            Taken::Ended => self.note(ChildEntry::Ended(t)),
-        }
+        self.take_next(t, shown);
         Ok(())
     }
 

@@ -11,7 +11,7 @@ ghost use Rattle.nk_plan.specs.Enabled.{child_enabled};
 ghost use Rattle.nk_plan.specs.declared.step.ChildStep.TheVariants as step;
 ghost use Rattle.nk_base.specs.declared.message.MainMsg.TheVariants as main;
 ghost use Rattle.nk_child.specs.Moved.{moved_if};
-ghost use Rattle.nk_child.specs.Shown.{event_sends};
+ghost use Rattle.nk_child.specs.Shown.{with_shown, event_sends, offer_shown};
 ghost use Rattle.nk_child.specs.Views.{HasRoom, Leaves, Counted, Gains};
 
 use crate::queued::Queued;
@@ -21,6 +21,21 @@ use nk_hold::{Held, Kept, Released};
 use nk_plan::{ChildEntry, ChildEvent, StartLane};
 
 impl Work {
+    /// A message of the main lane is entered and its event offered, once what that shows is ready.
+    fn enter_offer(&mut self, taken: ChildEntry, e: Queued, shown: Option<Entry>)
+        requires rooms { HasRoom 2 1 self.old.rooms }
+        requires counts { Counted self.old.state }
+        requires quiet { event_sends self.old.state.kept e ≡ [] }
+        requires shown { shown ≡ offer_shown self.old.plan self.old.state.hop self.old.state.kept self.old.state.queue target.Main e }
+        ensures ok { Leaves 2 1 self.old self.new (offer_event self.old.plan target.Main e (with_entry taken self.old.state)) }
+        ensures trace { self.new.state.trace ≡ with_shown self.old.state.trace shown }
+        ensures sent { self.new.state.sent ≡ self.old.state.sent }
+        ensures busy { is_busy self.new.state.queue ≡ true }
+    {
+        self.note(taken);
+        self.offer(Target::Main, e, shown);
+    }
+
     /// Takes a message of the main lane: enters it, and offers its event.
     #[tactic(auto, using(crate::proofs::Gains::gains_shown))]
     fn take<D: Out<Entry>>(
@@ -42,8 +57,7 @@ impl Work {
         ensures room { D.room delivery.new + length (D.staged delivery.new) ≡ D.room delivery.old + length (D.staged delivery.old) }
     {
         let shown = self.ready(Target::Main, &e, delivery)?;
-        self.note(taken);
-        self.offer(Target::Main, e, shown);
+        self.enter_offer(taken, e, shown);
         Ok(())
     }
 

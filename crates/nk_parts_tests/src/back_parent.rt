@@ -5,7 +5,6 @@ ghost use Rattle.std.specs.Prelude.{◌≡◌, ◌≤◌, [], length};
 use nk_back_parent::BackParent;
 use nk_base::{BackMsg, Memory, Moved, Out, OutList};
 use std::alloc::Global;
-use std::test::Fail;
 
 /// A half with the list that it is handed and the lane that it moves messages to, and how many messages there were:
 /// so few that there is room for more.
@@ -110,7 +109,7 @@ const DID: Answer = Answer::Moved(Moved::Did);
 const IDLE: Answer = Answer::Moved(Moved::Idle);
 
 #[test]
-fn what_goes_in_comes_out_in_order(rt: HostRuntime) -> Result<(), Fail> {
+fn what_goes_in_comes_out_in_order(rt: HostRuntime) {
     let rows = [
         (Call::Hand(0), Answer::Done),
         (Call::Hand(1), Answer::Done),
@@ -123,11 +122,10 @@ fn what_goes_in_comes_out_in_order(rt: HostRuntime) -> Result<(), Fail> {
         (Call::Count, Answer::Count(2)),
     ];
     assert_eq!(rt; first_wrong(rt.alloc(), &rows), None);
-    Ok(())
 }
 
 #[test]
-fn a_message_is_moved_behind_those_that_were_moved(rt: HostRuntime) -> Result<(), Fail> {
+fn a_message_is_moved_behind_those_that_were_moved(rt: HostRuntime) {
     let rows = [
         (Call::Forward, IDLE),
         (Call::Count, Answer::Count(0)),
@@ -146,5 +144,4 @@ fn a_message_is_moved_behind_those_that_were_moved(rt: HostRuntime) -> Result<()
         (Call::Take, Answer::Message(Some(1))),
     ];
     assert_eq!(rt; first_wrong(rt.alloc(), &rows), None);
-    Ok(())
 }

@@ -4,61 +4,77 @@ ghost use Rattle.std.specs.Prelude.{◌≤◌, ◌+◌, length, IsTrue};
 ghost use Rattle.nk_base.specs.Ranges.{IsUpInRange};
 
 use nk_base::{
-    ByteList, Field, Fields, Grow, Head, HeadError, Memory, Name, Out, OutList, Piece, PieceError,
-    Status, Target, UpMsg, Value,
+    ByteList, Field, Fields, Grow, Head, HeadError, Name, Out, OutList, Piece, PieceError, Status,
+    Target, UpMsg, Value,
 };
 use std::alloc::Global;
-use std::test::Fail;
 
 mod messages;
 
 pub(crate) use messages::{Numbered, first_confused};
 
-fn field(alloc: Global, name: &[u8], value: &[u8]) -> Result<Field, Memory> {
-    Ok(Field {
-        name: Name::new(alloc, name)?,
-        value: Value::new(alloc, value)?,
-    })
+fn field_of(alloc: Global, name: Name, value: &[u8]) -> Option<Field> {
+    let value = Value::new(alloc, value).ok()?;
+    Some(Field { name, value })
+}
+
+/// Puts a field behind the others.
+pub(crate) fn add_field(alloc: Global, all: &mut Fields, name: &[u8], value: &[u8]) -> Option<()> {
+    let name = Name::new(alloc, name).ok()?;
+    let field = field_of(alloc, name, value)?;
+    all.push(field).ok()
+}
+
+fn add_fields(
+    alloc: Global,
+    all: &mut Fields,
+    count: usize,
+    name: &[u8],
+    value: &[u8],
+) -> Option<()> {
+    for _ in 1..count {
+        add_field(alloc, all, b"content-type", b"text/html")?;
+    }
+    if count > 0 {
+        add_field(alloc, all, name, value)?;
+    }
+    Some(())
 }
 
 /// So many fields, of which the last is this one.
-fn fields(alloc: Global, count: usize, name: &[u8], value: &[u8]) -> Result<Fields, Memory> {
+fn fields(alloc: Global, count: usize, name: &[u8], value: &[u8]) -> Option<Fields> {
     let mut all = Fields::new(alloc);
-    for _ in 1..count {
-        all.push(field(alloc, b"content-type", b"text/html")?)?;
-    }
-    if count > 0 {
-        all.push(field(alloc, name, value)?)?;
-    }
-    Ok(all)
+    add_fields(alloc, &mut all, count, name, value)?;
+    Some(all)
 }
 
 /// A code, the number of fields, the last of them, and what is wrong with such a head.
 #[derive(Clone, Copy, Drop)]
 struct HeadRow(u16, usize, &'static [u8], &'static [u8], Option<HeadError>);
 
-/// Whether a head is refused as its row says, and else has the parts that it was given.
-fn is_so(alloc: Global, row: &HeadRow) -> Result<bool, Memory> {
-    Ok(
-        match Head::new(row.0, fields(alloc, row.1, row.2, row.3)?) {
-            Ok(head) => row.4.is_none() && head.code == row.0 && head.fields.len() == row.1,
-            Err(error) => row.4 == Some(error),
-        },
-    )
+/// Whether a head of these fields is refused as its row says, and else has the parts that it was given.
+fn is_so(fields: Fields, row: &HeadRow) -> bool {
+    match Head::new(row.0, fields) {
+        Ok(head) => row.4.is_none() && head.code == row.0 && head.fields.len() == row.1,
+        Err(error) => row.4 == Some(error),
+    }
 }
 
 /// The number of the first row that is not so.
-fn first_wrong_head(alloc: Global, rows: &[HeadRow]) -> Result<Option<usize>, Memory> {
+fn first_wrong_head(alloc: Global, rows: &[HeadRow]) -> Option<usize> {
     for (i, row) in rows.iter().enumerate() {
-        if !is_so(alloc, row)? {
-            return Ok(Some(i));
+        let Some(fields) = fields(alloc, row.1, row.2, row.3) else {
+            return Some(i);
+        };
+        if !is_so(fields, row) {
+            return Some(i);
         }
     }
-    Ok(None)
+    None
 }
 
 #[test]
-fn a_head_that_is_refused_names_its_cause(rt: HostRuntime) -> Result<(), Fail> {
+fn a_head_that_is_refused_names_its_cause(rt: HostRuntime) {
     let html = b"text/html".as_slice();
     let rows = [
         HeadRow(99, 0, b"", b"", Some(HeadError::BadCode(99))),
@@ -77,60 +93,76 @@ fn a_head_that_is_refused_names_its_cause(rt: HostRuntime) -> Result<(), Fail> {
         HeadRow(200, 3, b"vary", b"accept ", Some(HeadError::BadValue(2))),
         HeadRow(200, 3, b"vary", b"a  b", None),
     ];
-    assert_eq!(rt; first_wrong_head(rt.alloc(), &rows)?, None);
-    Ok(())
+    assert_eq!(rt; first_wrong_head(rt.alloc(), &rows), None);
 }
 
 const NAME_BYTES: &[u8] = b"abcdefghijklmnopqrstuvwxyz0123456789!#$%&'*+-.^_`|~";
 
+fn is_name(alloc: Global, bytes: &[u8]) -> Option<bool> {
+    let name = Name::new(alloc, bytes).ok()?;
+    Some(name.is_good())
+}
+
+fn is_value(alloc: Global, bytes: &[u8]) -> Option<bool> {
+    let value = Value::new(alloc, bytes).ok()?;
+    Some(value.is_good())
+}
+
 /// Whether a byte may stand in names and in values exactly where it should.
-fn is_byte_so(alloc: Global, byte: u8) -> Result<bool, Memory> {
-    let name = Name::new(alloc, &[byte])?.is_good();
-    let alone = Value::new(alloc, &[byte])?.is_good();
-    let within = Value::new(alloc, &[b'a', byte, b'b'])?.is_good();
-    Ok(
-        name == NAME_BYTES.contains(&byte)
-            && alone == (0x21 <= byte && byte <= 0x7e)
-            && within == (0x20 <= byte && byte <= 0x7e),
-    )
+fn is_byte_so(alloc: Global, byte: u8) -> bool {
+    let name = is_name(alloc, &[byte]);
+    let alone = is_value(alloc, &[byte]);
+    let within = is_value(alloc, &[b'a', byte, b'b']);
+    name == Some(NAME_BYTES.contains(&byte))
+        && alone == Some(0x21 <= byte && byte <= 0x7e)
+        && within == Some(0x20 <= byte && byte <= 0x7e)
 }
 
-#[test]
-fn names_and_values_have_their_bytes(rt: HostRuntime) -> Result<(), Fail> {
+fn first_wrong_byte(alloc: Global) -> Option<u8> {
     for byte in 0..=255 {
-        assert!(rt; is_byte_so(rt.alloc(), byte)?, "at {byte}");
+        if !is_byte_so(alloc, byte) {
+            return Some(byte);
+        }
     }
-    Ok(())
+    None
 }
 
 #[test]
-fn names_and_values_have_their_lengths(rt: HostRuntime) -> Result<(), Fail> {
-    for (length, name, value) in [
+fn names_and_values_have_their_bytes(rt: HostRuntime) {
+    assert_eq!(rt; first_wrong_byte(rt.alloc()), None);
+}
+
+/// Whether so many bytes are a name, and a value.
+fn are_good(alloc: Global, length: usize) -> Option<(bool, bool)> {
+    let bytes = vec![in alloc; b'a'; length].ok()?;
+    Some((is_name(alloc, &bytes)?, is_value(alloc, &bytes)?))
+}
+
+/// The number of the first row of a length and what is good of it that is not so.
+fn first_wrong_length(alloc: Global, rows: &[(usize, bool, bool)]) -> Option<usize> {
+    for (i, row) in rows.iter().enumerate() {
+        if are_good(alloc, row.0) != Some((row.1, row.2)) {
+            return Some(i);
+        }
+    }
+    None
+}
+
+#[test]
+fn names_and_values_have_their_lengths(rt: HostRuntime) {
+    let rows = [
         (0, false, false),
         (1, true, true),
         (64, true, true),
         (65, false, true),
         (8192, false, true),
         (8193, false, false),
-    ] {
-        let bytes = vec![in rt.alloc(); b'a'; length]?;
-        assert_eq!(rt;
-            Name::new(rt.alloc(), &bytes)?.is_good(),
-            name,
-            "at {length}"
-        );
-        assert_eq!(rt;
-            Value::new(rt.alloc(), &bytes)?.is_good(),
-            value,
-            "at {length}"
-        );
-    }
-    Ok(())
+    ];
+    assert_eq!(rt; first_wrong_length(rt.alloc(), &rows), None);
 }
 
-/// The size of a piece of these bytes and of its share, which has the bytes too.
-fn piece_size(alloc: Global, bytes: &[u8]) -> Result<u32, PieceError> {
-    let piece = Piece::new(alloc, bytes)?;
+/// The size of the share of a piece of these bytes, where it has the bytes too.
+fn share_size(piece: &Piece, bytes: &[u8]) -> Result<u32, PieceError> {
     match piece.share() {
         Ok(share) if share.as_slice() == bytes && piece.same(&share) => Ok(share.size()),
         Ok(_) => Ok(0),
@@ -138,49 +170,69 @@ fn piece_size(alloc: Global, bytes: &[u8]) -> Result<u32, PieceError> {
     }
 }
 
+/// The size of the share of a piece of so many bytes.
+fn piece_size(alloc: Global, length: usize) -> Result<u32, PieceError> {
+    let Ok(bytes) = vec![in alloc; 0x2e_u8; length] else {
+        return Err(PieceError::Memory);
+    };
+    match Piece::new(alloc, &bytes) {
+        Ok(piece) => share_size(&piece, &bytes),
+        Err(error) => Err(error),
+    }
+}
+
+/// The number of the first row of a length and the size of such a piece that is not so.
+fn first_wrong_size(alloc: Global, rows: &[(usize, Result<u32, PieceError>)]) -> Option<usize> {
+    for (i, row) in rows.iter().enumerate() {
+        if piece_size(alloc, row.0) != row.1 {
+            return Some(i);
+        }
+    }
+    None
+}
+
 #[test]
-fn a_piece_has_1_to_131072_bytes(rt: HostRuntime) -> Result<(), Fail> {
-    for (length, answer) in [
+fn a_piece_has_1_to_131072_bytes(rt: HostRuntime) {
+    let rows = [
         (0, Err(PieceError::Empty)),
         (1, Ok(1)),
         (131_071, Ok(131_071)),
         (131_072, Ok(131_072)),
         (131_073, Err(PieceError::TooLong)),
-    ] {
-        let bytes = vec![in rt.alloc(); 0x2e_u8; length]?;
-        assert_eq!(rt; piece_size(rt.alloc(), &bytes), answer);
-    }
-    Ok(())
+    ];
+    assert_eq!(rt; first_wrong_size(rt.alloc(), &rows), None);
 }
 
-/// A list to which a byte and then more were added.
-fn gathered(alloc: Global) -> Result<ByteList, Memory> {
+/// Adds a byte and then more.
+fn gather(bytes: &mut ByteList) -> Option<()> {
+    bytes.push(b'a').ok()?;
+    bytes.extend(b"bc").ok()?;
+    bytes.extend(b"").ok()
+}
+
+/// The length of the list that is gathered, whether it has its bytes, and whether it has them as a list of items too.
+fn gathered(alloc: Global) -> Option<(usize, bool, bool)> {
     let mut bytes = ByteList::new(alloc);
-    bytes.push(b'a')?;
-    bytes.extend(b"bc")?;
-    bytes.extend(b"")?;
-    Ok(bytes)
+    gather(&mut bytes)?;
+    let length = bytes.len();
+    let has_bytes = bytes.as_slice() == b"abc".as_slice();
+    let back = ByteList::from_grow(bytes.into_grow());
+    Some((length, has_bytes, back.as_slice() == b"abc".as_slice()))
 }
 
-/// A list to which an item was added in the room that was made for it.
-fn grown(alloc: Global) -> Result<Grow<u32>, Memory> {
+/// Whether a list has the item that was added in the room that was made for it, and how many it has by way of a `Vec`.
+fn grown(alloc: Global) -> Option<(bool, usize)> {
     let mut grow = Grow::new(alloc);
-    grow.reserve(1)?;
-    grow.push(7);
-    Ok(grow)
+    grow.reserve(1).ok()?;
+    grow.push(7u32);
+    let has_item = grow.as_slice() == [7].as_slice();
+    Some((has_item, Grow::from_vec(grow.into_vec()).len()))
 }
 
 #[test]
-fn lists_take_what_is_pushed(rt: HostRuntime) -> Result<(), Fail> {
-    let bytes = gathered(rt.alloc())?;
-    assert_eq!(rt; bytes.len(), 3);
-    assert_eq!(rt; bytes.as_slice(), b"abc".as_slice());
-    let back = ByteList::from_grow(bytes.into_grow());
-    assert_eq!(rt; back.as_slice(), b"abc".as_slice());
-    let grow = grown(rt.alloc())?;
-    assert_eq!(rt; grow.as_slice(), [7].as_slice());
-    assert_eq!(rt; Grow::from_vec(grow.into_vec()).len(), 1);
-    Ok(())
+fn lists_take_what_is_pushed(rt: HostRuntime) {
+    let both = (gathered(rt.alloc()), grown(rt.alloc()));
+    assert_eq!(rt; both, (Some((3, true, true)), Some((true, 1))));
 }
 
 /// A list of messages, and how many it was given at most: so few that there is room for more.
@@ -286,36 +338,58 @@ fn what_is_staged_is_sent_in_order(rt: HostRuntime) {
     assert_eq!(rt; first_wrong(rt.alloc(), &rows), None);
 }
 
+/// A status, its number, and whether it is a failure and is legal.
+#[derive(Clone, Copy, Drop)]
+struct StatusRow(Status, u32, bool, bool);
+
+/// The number of the first row that is not so.
+fn first_wrong_status(rows: &[StatusRow]) -> Option<usize> {
+    for (i, row) in rows.iter().enumerate() {
+        let status = row.0;
+        if status.0 != row.1 || status.is_failure() != row.2 || status.is_legal() != row.3 {
+            return Some(i);
+        }
+    }
+    None
+}
+
 #[test]
 fn statuses_have_their_numbers(rt: HostRuntime) {
-    for (status, number) in [
-        (Status::OK, 0),
-        (Status::FAILURE, 0x8000_4005),
-        (Status::BINDING_ABORTED, 0x804b_0002),
-        (Status::CONNECTION_REFUSED, 0x804b_000d),
-        (Status::NET_RESET, 0x804b_0014),
-        (Status::REDIRECT_LOOP, 0x804b_001f),
-        (Status::STREAM_CLOSED, 0x8047_0002),
-        (Status::STREAM_WOULD_BLOCK, 0x8047_0007),
-    ] {
-        assert_eq!(rt; status.0, number);
-        assert_eq!(rt; status.is_legal(), true);
-        assert_eq!(rt; status.is_failure(), number > 0);
-    }
+    let rows = [
+        StatusRow(Status::OK, 0, false, true),
+        StatusRow(Status::FAILURE, 0x8000_4005, true, true),
+        StatusRow(Status::BINDING_ABORTED, 0x804b_0002, true, true),
+        StatusRow(Status::CONNECTION_REFUSED, 0x804b_000d, true, true),
+        StatusRow(Status::NET_RESET, 0x804b_0014, true, true),
+        StatusRow(Status::REDIRECT_LOOP, 0x804b_001f, true, true),
+        StatusRow(Status::STREAM_CLOSED, 0x8047_0002, true, true),
+        StatusRow(Status::STREAM_WOULD_BLOCK, 0x8047_0007, true, true),
+    ];
+    assert_eq!(rt; first_wrong_status(&rows), None);
 }
 
 #[test]
 fn a_status_is_0_or_has_its_top_bit_set(rt: HostRuntime) {
-    for (number, is_failure, is_legal) in [
-        (0, false, true),
-        (1, false, false),
-        (0x7fff_ffff, false, false),
-        (0x8000_0000, true, true),
-        (0xffff_ffff, true, true),
-    ] {
-        assert_eq!(rt; Status(number).is_failure(), is_failure, "at {number}");
-        assert_eq!(rt; Status(number).is_legal(), is_legal, "at {number}");
+    let rows = [
+        StatusRow(Status(0), 0, false, true),
+        StatusRow(Status(1), 1, false, false),
+        StatusRow(Status(0x7fff_ffff), 0x7fff_ffff, false, false),
+        StatusRow(Status(0x8000_0000), 0x8000_0000, true, true),
+        StatusRow(Status(0xffff_ffff), 0xffff_ffff, true, true),
+    ];
+    assert_eq!(rt; first_wrong_status(&rows), None);
+}
+
+/// Whether each of the targets is itself alone.
+fn are_apart(targets: &[Target]) -> bool {
+    for (i, one) in targets.iter().enumerate() {
+        for (j, other) in targets.iter().enumerate() {
+            if one.is(*other) != (i == j) {
+                return false;
+            }
+        }
     }
+    true
 }
 
 #[test]
@@ -326,9 +400,5 @@ fn each_worker_is_a_target_of_its_own(rt: HostRuntime) {
         Target::Worker(16),
         Target::Back,
     ];
-    for (i, one) in targets.iter().enumerate() {
-        for (j, other) in targets.iter().enumerate() {
-            assert_eq!(rt; one.is(*other), i == j);
-        }
-    }
+    assert!(rt; are_apart(&targets));
 }

@@ -2,7 +2,6 @@
 
 use nk_chain::Chain;
 use std::alloc::Global;
-use std::test::Fail;
 
 /// A call of a chain. Room is made before an item is put in.
 #[derive(Clone, Copy, Drop)]
@@ -76,31 +75,38 @@ fn first_wrong(alloc: Global, rows: &[(Call, Answer)]) -> Option<usize> {
     None
 }
 
-#[test]
-fn chain_calls(rt: HostRuntime) -> Result<(), Fail> {
-    let mut chain = Chain::new(rt.alloc());
-    chain.reserve(3)?;
+/// What a chain of 0, 1 and 2 says of its places and gives: whether each leads to the next, the items there, the first
+/// one out, the two that keep their places, and the rest, of which the last was changed to 7.
+type Seen = (bool, [u32; 3], Option<u32>, [u32; 2], [Option<u32>; 3]);
+
+fn seen(alloc: Global) -> Option<Seen> {
+    let mut chain = Chain::new(alloc);
+    if chain.reserve(3).is_err() {
+        return None;
+    }
     let one = chain.push_back(1u32);
     let two = chain.push_back(2);
     let zero = chain.push_front(0);
-
-    assert_eq!(rt; chain.first(), Some(zero));
-    assert_eq!(rt; chain.next(zero), Some(one));
-    assert_eq!(rt; chain.next(one), Some(two));
-    assert_eq!(rt; chain.next(two), None);
-    assert_eq!(rt;
-        (*chain.get(zero), *chain.get(one), *chain.get(two)),
-        (0, 1, 2)
-    );
-
-    assert_eq!(rt; chain.pop_front(), Some(0));
-    assert_eq!(rt; *chain.get(one), 1);
-    assert_eq!(rt; *chain.get(two), 2);
+    let links = [
+        chain.first(),
+        chain.next(zero),
+        chain.next(one),
+        chain.next(two),
+    ];
+    let is_linked = links == [Some(zero), Some(one), Some(two), None];
+    let items = [*chain.get(zero), *chain.get(one), *chain.get(two)];
+    let first = chain.pop_front();
+    let kept = [*chain.get(one), *chain.get(two)];
     *chain.get_mut(two) = 7;
-    assert_eq!(rt; chain.pop_front(), Some(1));
-    assert_eq!(rt; chain.pop_front(), Some(7));
-    assert_eq!(rt; chain.pop_front(), None);
-    Ok(())
+    let rest = [chain.pop_front(), chain.pop_front(), chain.pop_front()];
+    Some((is_linked, items, first, kept, rest))
+}
+
+#[test]
+fn chain_calls(rt: HostRuntime) {
+    let rest = [Some(1), Some(7), None];
+    let all = (true, [0, 1, 2], Some(0), [1, 2], rest);
+    assert_eq!(rt; seen(rt.alloc()), Some(all));
 }
 
 #[test]

@@ -3,7 +3,6 @@
 use nk_base::{BackMsg, Fields, Head, Piece, Status};
 use nk_hold::{Held, Hold, Kept, Released};
 use std::alloc::Global;
-use std::test::Fail;
 
 /// A call of a hold, or of the messages of its last release. Data has its hop and its offset.
 #[derive(Clone, Copy, Drop)]
@@ -92,18 +91,22 @@ struct Driven {
     given: Option<Kept>,
 }
 
-/// Hands a message to the hold, with room made for it first.
-fn back(hold: &mut Hold, message: Option<BackMsg>) -> Answer {
-    let Some(message) = message else {
-        return Answer::Memory;
-    };
-    if hold.reserve(1).is_err() {
-        return Answer::Memory;
-    }
-    match hold.back(message) {
+fn held(held: Held) -> Answer {
+    match held {
         Held::Pass(message) => Answer::Passed(named(&message)),
         Held::Kept => Answer::Kept,
         Held::Noted => Answer::Noted,
+    }
+}
+
+/// Hands a message to the hold, with room made for it first.
+fn back(hold: &mut Hold, message: Option<BackMsg>) -> Answer {
+    if hold.reserve(1).is_err() {
+        return Answer::Memory;
+    }
+    match message {
+        Some(message) => held(hold.back(message)),
+        None => Answer::Memory,
     }
 }
 
@@ -136,16 +139,30 @@ fn left(given: &Option<Kept>) -> Answer {
     }
 }
 
+fn first_of(messages: &Kept) -> Option<Message> {
+    match messages.first() {
+        Some(message) => Some(named(message)),
+        None => None,
+    }
+}
+
 fn first(given: &Option<Kept>) -> Answer {
     match given {
-        Some(messages) => Answer::Message(messages.first().map(|message| named(message))),
+        Some(messages) => Answer::Message(first_of(messages)),
         None => Answer::Refused,
+    }
+}
+
+fn take_of(messages: &mut Kept) -> Option<Message> {
+    match messages.take() {
+        Some(message) => Some(named(&message)),
+        None => None,
     }
 }
 
 fn take(given: &mut Option<Kept>) -> Answer {
     match given {
-        Some(messages) => Answer::Message(messages.take().map(|message| named(&message))),
+        Some(messages) => Answer::Message(take_of(messages)),
         None => Answer::Refused,
     }
 }
@@ -167,10 +184,22 @@ fn make(driven: &mut Driven, call: Call) -> Answer {
     }
 }
 
-/// The number of the first call that answers otherwise than its row says.
-fn first_wrong(alloc: Global, hold: Hold, rows: &[(Call, Answer)]) -> Option<usize> {
-    let given = None;
-    let mut driven = Driven { alloc, hold, given };
+fn new_hold(alloc: Global, has_first: bool) -> Hold {
+    if has_first {
+        Hold::with_first(alloc)
+    } else {
+        Hold::new(alloc)
+    }
+}
+
+/// The number of the first call of a new hold, by which the first hop passes or not, that answers otherwise than its
+/// row says.
+fn first_wrong(alloc: Global, has_first: bool, rows: &[(Call, Answer)]) -> Option<usize> {
+    let mut driven = Driven {
+        alloc,
+        hold: new_hold(alloc, has_first),
+        given: None,
+    };
     for (i, row) in rows.iter().enumerate() {
         if make(&mut driven, row.0) != row.1 {
             return Some(i);
@@ -180,7 +209,7 @@ fn first_wrong(alloc: Global, hold: Hold, rows: &[(Call, Answer)]) -> Option<usi
 }
 
 #[test]
-fn data_waits_for_its_start_and_keeps_its_order(rt: HostRuntime) -> Result<(), Fail> {
+fn data_waits_for_its_start_and_keeps_its_order(rt: HostRuntime) {
     let rows = [
         (Call::Sent(0), Answer::Noted),
         (Call::Data(1, 0), Answer::Kept),
@@ -204,12 +233,11 @@ fn data_waits_for_its_start_and_keeps_its_order(rt: HostRuntime) -> Result<(), F
         (Call::Release, Answer::Idle),
         (Call::Kept, Answer::Number(1)),
     ];
-    assert_eq!(rt; first_wrong(rt.alloc(), Hold::new(rt.alloc()), &rows), None);
-    Ok(())
+    assert_eq!(rt; first_wrong(rt.alloc(), false, &rows), None);
 }
 
 #[test]
-fn only_the_word_that_a_start_was_sent_is_never_kept(rt: HostRuntime) -> Result<(), Fail> {
+fn only_the_word_that_a_start_was_sent_is_never_kept(rt: HostRuntime) {
     let rows = [
         (Call::Sent(5), Answer::Noted),
         (Call::Report, Answer::Report(None)),
@@ -230,12 +258,11 @@ fn only_the_word_that_a_start_was_sent_is_never_kept(rt: HostRuntime) -> Result<
         (Call::Stop(5), Answer::Passed(Message::Stop(5))),
         (Call::Stop(6), Answer::Kept),
     ];
-    assert_eq!(rt; first_wrong(rt.alloc(), Hold::new(rt.alloc()), &rows), None);
-    Ok(())
+    assert_eq!(rt; first_wrong(rt.alloc(), false, &rows), None);
 }
 
 #[test]
-fn the_first_hop_passes_where_its_start_comes_behind_nothing(rt: HostRuntime) -> Result<(), Fail> {
+fn the_first_hop_passes_where_its_start_comes_behind_nothing(rt: HostRuntime) {
     let rows = [
         (Call::Start(0), Answer::Passed(Message::Start(0))),
         (Call::Data(1, 0), Answer::Kept),
@@ -254,9 +281,5 @@ fn the_first_hop_passes_where_its_start_comes_behind_nothing(rt: HostRuntime) ->
         (Call::Take, Answer::Message(Some(Message::Data(1, 0)))),
         (Call::Kept, Answer::Number(0)),
     ];
-    assert_eq!(rt;
-        first_wrong(rt.alloc(), Hold::with_first(rt.alloc()), &rows),
-        None
-    );
-    Ok(())
+    assert_eq!(rt; first_wrong(rt.alloc(), true, &rows), None);
 }

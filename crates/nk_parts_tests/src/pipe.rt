@@ -3,7 +3,6 @@
 use nk_base::Status;
 use nk_pipe::{CloneError, NoReader, Pipe, Read, Write};
 use std::alloc::Global;
-use std::test::Fail;
 
 /// A call of a pipe. A write is of so many bytes of the text, from those on that were written.
 #[derive(Clone, Copy, Drop)]
@@ -47,19 +46,19 @@ const ABORTED: Status = Status::BINDING_ABORTED;
 
 const RESET: Status = Status::NET_RESET;
 
-fn wrote(count: u32) -> Answer {
+const fn wrote(count: u32) -> Answer {
     Answer::Write(Write::Wrote(count))
 }
 
-fn write_closed(status: Status) -> Answer {
+const fn write_closed(status: Status) -> Answer {
     Answer::Write(Write::Closed(status))
 }
 
-fn got(count: u32) -> Answer {
+const fn got(count: u32) -> Answer {
     Answer::Read(Read::Read(count))
 }
 
-fn failed(status: Status) -> Answer {
+const fn failed(status: Status) -> Answer {
     Answer::Read(Read::Failed(status))
 }
 
@@ -135,7 +134,7 @@ fn first_wrong(alloc: Global, segment: u32, limit: u32, rows: &[(Call, Answer)])
 }
 
 #[test]
-fn two_readers_read_all_bytes_at_their_own_pace(rt: HostRuntime) -> Result<(), Fail> {
+fn two_readers_read_all_bytes_at_their_own_pace(rt: HostRuntime) {
     let rows = [
         (Call::Clone(1), Answer::Reader(2)),
         (Call::Write(20), wrote(8)),
@@ -155,11 +154,10 @@ fn two_readers_read_all_bytes_at_their_own_pace(rt: HostRuntime) -> Result<(), F
         (Call::Position(0), Answer::Position(None)),
     ];
     assert_eq!(rt; first_wrong(rt.alloc(), 4, 2, &rows), None);
-    Ok(())
 }
 
 #[test]
-fn a_closed_pipe_answers_with_the_status_of_the_first_close(rt: HostRuntime) -> Result<(), Fail> {
+fn a_closed_pipe_answers_with_the_status_of_the_first_close(rt: HostRuntime) {
     let by_reader = [
         (Call::Write(2), wrote(2)),
         (Call::Close(1, ABORTED), Answer::Done),
@@ -185,11 +183,10 @@ fn a_closed_pipe_answers_with_the_status_of_the_first_close(rt: HostRuntime) -> 
         (Call::Write(1), write_closed(RESET)),
     ];
     assert_eq!(rt; first_wrong(rt.alloc(), 4, 2, &by_writer), None);
-    Ok(())
 }
 
 #[test]
-fn a_clone_holds_the_room_when_the_original_is_closed(rt: HostRuntime) -> Result<(), Fail> {
+fn a_clone_holds_the_room_when_the_original_is_closed(rt: HostRuntime) {
     let rows = [
         (Call::Write(6), wrote(4)),
         (Call::Clone(1), Answer::Reader(2)),
@@ -204,11 +201,10 @@ fn a_clone_holds_the_room_when_the_original_is_closed(rt: HostRuntime) -> Result
         (Call::Read(1, 1), failed(ABORTED)),
     ];
     assert_eq!(rt; first_wrong(rt.alloc(), 4, 1, &rows), None);
-    Ok(())
 }
 
 #[test]
-fn room_grows_by_whole_segments(rt: HostRuntime) -> Result<(), Fail> {
+fn room_grows_by_whole_segments(rt: HostRuntime) {
     let rows = [
         (Call::Read(1, 9), NOTHING),
         (Call::Write(0), wrote(0)),
@@ -233,11 +229,10 @@ fn room_grows_by_whole_segments(rt: HostRuntime) -> Result<(), Fail> {
         first_wrong(rt.alloc(), 65_536, 1024, &[(Call::Write(40), wrote(40))]),
         None
     );
-    Ok(())
 }
 
 #[test]
-fn eight_readers_are_made_and_no_more(rt: HostRuntime) -> Result<(), Fail> {
+fn eight_readers_are_made_and_no_more(rt: HostRuntime) {
     let rows = [
         (Call::Clone(0), Answer::NoClone(CloneError::NoReader(0))),
         (Call::Clone(2), Answer::NoClone(CloneError::NoReader(2))),
@@ -264,11 +259,10 @@ fn eight_readers_are_made_and_no_more(rt: HostRuntime) -> Result<(), Fail> {
         (Call::Position(1), Answer::Position(Some(3))),
     ];
     assert_eq!(rt; first_wrong(rt.alloc(), 4, 1, &rows), None);
-    Ok(())
 }
 
 #[test]
-fn a_reader_that_is_closed_in_good_order_has_failed(rt: HostRuntime) -> Result<(), Fail> {
+fn a_reader_that_is_closed_in_good_order_has_failed(rt: HostRuntime) {
     let closed = Status::STREAM_CLOSED;
     let rows = [
         (Call::Clone(1), Answer::Reader(2)),
@@ -285,5 +279,4 @@ fn a_reader_that_is_closed_in_good_order_has_failed(rt: HostRuntime) -> Result<(
         (Call::Written, Answer::Written(3)),
     ];
     assert_eq!(rt; first_wrong(rt.alloc(), 4, 2, &rows), None);
-    Ok(())
 }

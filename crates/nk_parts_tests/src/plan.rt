@@ -1,12 +1,12 @@
 // Plans, and what refuses them.
 
-use nk_base::{Field, Fields, Head, Memory, Name, Piece, Status, Value};
+use crate::base::add_field;
+use nk_base::{Fields, Head, Piece, Status};
 use nk_plan::{
     Act, ChannelPlan, Control, Controls, Finish, Hop, Hops, ListenerKind, Pieces, PlanError,
     Reaction, Reactions, StartLane, Verdict,
 };
 use std::alloc::Global;
-use std::test::Fail;
 
 mod kept;
 mod page;
@@ -63,90 +63,114 @@ fn plan_of(hops: &[Met]) -> Parts {
     }
 }
 
-/// So many shares of one piece of this size.
-fn pieces(alloc: Global, count: usize, size: usize) -> Result<Pieces, Fail> {
-    let mut all = Pieces::new(alloc);
-    if count == 0 {
-        return Ok(all);
-    }
-    let bytes = vec![in alloc; 0x2e_u8; size]?;
-    let piece = Piece::new(alloc, &bytes)?;
-    for _ in 0..count {
-        all.push(piece.share()?)?;
-    }
-    Ok(all)
+fn piece(alloc: Global, size: usize) -> Option<Piece> {
+    let bytes = vec![in alloc; 0x2e_u8; size].ok()?;
+    Piece::new(alloc, &bytes).ok()
 }
 
-/// So many trailers, which are good or not.
-fn trailers(alloc: Global, count: usize, are_good: bool) -> Result<Fields, Fail> {
+fn add_shares(pieces: &mut Pieces, piece: &Piece, count: usize) -> Option<()> {
+    for _ in 0..count {
+        let share = piece.share().ok()?;
+        pieces.push(share).ok()?;
+    }
+    Some(())
+}
+
+/// Adds so many shares of one piece of this size.
+fn add_pieces(alloc: Global, pieces: &mut Pieces, count: usize, size: usize) -> Option<()> {
+    if count == 0 {
+        return Some(());
+    }
+    let piece = piece(alloc, size)?;
+    add_shares(pieces, &piece, count)
+}
+
+/// Adds so many trailers, which are good or not.
+fn add_trailers(alloc: Global, all: &mut Fields, count: usize, are_good: bool) -> Option<()> {
     let name = if are_good {
         b"expires".as_slice()
     } else {
         b"Expires".as_slice()
     };
-    let mut all = Fields::new(alloc);
     for _ in 0..count {
-        all.push(Field {
-            name: Name::new(alloc, name)?,
-            value: Value::new(alloc, b"0")?,
-        })?;
+        add_field(alloc, all, name, b"0")?;
     }
-    Ok(all)
+    Some(())
 }
 
-fn hop(alloc: Global, met: Met) -> Result<Hop, Fail> {
-    Ok(match met {
-        Met::Fail(status) => Hop::Fail(status),
-        Met::Redirect(code, verdict) => Hop::Redirect { code, verdict },
-        Met::Response(count, size, finish, behind, are_good) => Hop::Response {
-            head: Head::new(200, Fields::new(alloc))?,
-            pieces: pieces(alloc, count, size)?,
-            finish,
-            trailers: trailers(alloc, behind, are_good)?,
-        },
+fn response(alloc: Global, pieces: Pieces, finish: Finish, trailers: Fields) -> Option<Hop> {
+    let head = Head::new(200, Fields::new(alloc)).ok()?;
+    Some(Hop::Response {
+        head,
+        pieces,
+        finish,
+        trailers,
     })
 }
 
-fn hops(alloc: Global, met: &[Met]) -> Result<Hops, Fail> {
-    let mut all = Hops::new(alloc);
+fn hop(alloc: Global, met: Met) -> Option<Hop> {
+    match met {
+        Met::Fail(status) => Some(Hop::Fail(status)),
+        Met::Redirect(code, verdict) => Some(Hop::Redirect { code, verdict }),
+        Met::Response(count, size, finish, behind, are_good) => {
+            let mut pieces = Pieces::new(alloc);
+            add_pieces(alloc, &mut pieces, count, size)?;
+            let mut trailers = Fields::new(alloc);
+            add_trailers(alloc, &mut trailers, behind, are_good)?;
+            response(alloc, pieces, finish, trailers)
+        }
+    }
+}
+
+fn add_hops(alloc: Global, hops: &mut Hops, met: &[Met]) -> Option<()> {
     for one in met {
-        all.push(hop(alloc, *one)?)?;
+        let hop = hop(alloc, *one)?;
+        hops.push(hop).ok()?;
     }
-    Ok(all)
+    Some(())
 }
 
-fn reactions(alloc: Global, items: &[Reaction]) -> Result<Reactions, Memory> {
-    let mut all = Reactions::new(alloc);
+fn add_reactions(reactions: &mut Reactions, items: &[Reaction]) -> Option<()> {
     for item in items {
-        all.push(*item)?;
+        reactions.push(*item).ok()?;
     }
-    Ok(all)
+    Some(())
 }
 
-fn controls(alloc: Global, items: &[Control]) -> Result<Controls, Memory> {
-    let mut all = Controls::new(alloc);
+fn add_controls(controls: &mut Controls, items: &[Control]) -> Option<()> {
     for item in items {
-        all.push(*item)?;
+        controls.push(*item).ok()?;
     }
-    Ok(all)
+    Some(())
 }
 
-fn made(alloc: Global, parts: Parts) -> Result<Result<ChannelPlan, PlanError>, Fail> {
-    Ok(ChannelPlan::new(
-        hops(alloc, parts.hops)?,
+/// The plan with these parts, or why it is refused; nothing where there is no memory for it.
+fn made(alloc: Global, parts: Parts) -> Option<Result<ChannelPlan, PlanError>> {
+    let mut hops = Hops::new(alloc);
+    add_hops(alloc, &mut hops, parts.hops)?;
+    let mut reactions = Reactions::new(alloc);
+    add_reactions(&mut reactions, parts.reactions)?;
+    let mut controls = Controls::new(alloc);
+    add_controls(&mut controls, parts.controls)?;
+    Some(ChannelPlan::new(
+        hops,
         parts.listener,
         true,
-        reactions(alloc, parts.reactions)?,
-        controls(alloc, parts.controls)?,
+        reactions,
+        controls,
         parts.window,
         parts.closed,
         StartLane::Main,
     ))
 }
 
-/// Why a plan is refused.
-fn refusal(alloc: Global, parts: Parts) -> Result<Option<PlanError>, Fail> {
-    Ok(made(alloc, parts)?.err())
+/// Whether a plan is refused with this cause, or not refused where there is none.
+fn meets(alloc: Global, parts: Parts, cause: Option<PlanError>) -> bool {
+    match made(alloc, parts) {
+        Some(Ok(_)) => cause.is_none(),
+        Some(Err(error)) => cause == Some(error),
+        None => false,
+    }
 }
 
 /// Hops, and why a plan with them is refused.
@@ -154,17 +178,17 @@ fn refusal(alloc: Global, parts: Parts) -> Result<Option<PlanError>, Fail> {
 struct HopRow<'a>(&'a [Met], Option<PlanError>);
 
 /// The number of the first row that is not so.
-fn first_wrong(alloc: Global, rows: &[HopRow]) -> Result<Option<usize>, Fail> {
+fn first_wrong(alloc: Global, rows: &[HopRow]) -> Option<usize> {
     for (i, row) in rows.iter().enumerate() {
-        if refusal(alloc, plan_of(row.0))? != row.1 {
-            return Ok(Some(i));
+        if !meets(alloc, plan_of(row.0), row.1) {
+            return Some(i);
         }
     }
-    Ok(None)
+    None
 }
 
 #[test]
-fn hops_are_refused_by_their_number_and_their_order(rt: HostRuntime) -> Result<(), Fail> {
+fn hops_are_refused_by_their_number_and_their_order(rt: HostRuntime) {
     let mut most = [REDIRECTS; 33];
     most[32] = FAILS;
     let early = [REDIRECTS, EMPTY, REDIRECTS, FAILS];
@@ -181,8 +205,7 @@ fn hops_are_refused_by_their_number_and_their_order(rt: HostRuntime) -> Result<(
         HopRow(&early, Some(PlanError::EarlyEnd(1))),
         HopRow(&[REDIRECTS, FAILS, EMPTY], Some(PlanError::EarlyEnd(1))),
     ];
-    assert_eq!(rt; first_wrong(rt.alloc(), &rows)?, None);
-    Ok(())
+    assert_eq!(rt; first_wrong(rt.alloc(), &rows), None);
 }
 
 const fn redirects(code: u16, verdict: Verdict) -> Met {
@@ -190,7 +213,7 @@ const fn redirects(code: u16, verdict: Verdict) -> Met {
 }
 
 #[test]
-fn hops_are_refused_by_what_they_hold(rt: HostRuntime) -> Result<(), Fail> {
+fn hops_are_refused_by_what_they_hold(rt: HostRuntime) {
     let first = Some(PlanError::BadHop(0));
     let second = Some(PlanError::BadHop(1));
     let veto = redirects(399, Verdict::Veto(RESET));
@@ -210,12 +233,11 @@ fn hops_are_refused_by_what_they_hold(rt: HostRuntime) -> Result<(), Fail> {
         HopRow(&[Met::Response(0, 0, Finish::Good, 65, true)], first),
         HopRow(&[Met::Response(0, 0, Finish::Good, 1, false)], first),
     ];
-    assert_eq!(rt; first_wrong(rt.alloc(), &rows)?, None);
-    Ok(())
+    assert_eq!(rt; first_wrong(rt.alloc(), &rows), None);
 }
 
 #[test]
-fn a_body_is_refused_by_its_size(rt: HostRuntime) -> Result<(), Fail> {
+fn a_body_is_refused_by_its_size(rt: HostRuntime) {
     let many = Some(PlanError::TooManyPieces(65_537));
     let large = Some(PlanError::TooManyBytes(67_239_936));
     let rows = [
@@ -224,6 +246,5 @@ fn a_body_is_refused_by_its_size(rt: HostRuntime) -> Result<(), Fail> {
         HopRow(&[body(512, 131_072)], None),
         HopRow(&[body(513, 131_072)], large),
     ];
-    assert_eq!(rt; first_wrong(rt.alloc(), &rows)?, None);
-    Ok(())
+    assert_eq!(rt; first_wrong(rt.alloc(), &rows), None);
 }

@@ -6,7 +6,6 @@ ghost use Rattle.nk_pump.specs.Stream.{Open, Good, Failed};
 use nk_base::Status;
 use nk_pump::{Pump, PumpStream, Read, Turn};
 use std::alloc::Global;
-use std::test::Fail;
 
 /// A stream of bytes in memory. Where it has ended, its status is 0 or why it failed.
 #[derive(Drop)]
@@ -162,7 +161,7 @@ fn first_wrong(alloc: Global, size: u32, rows: &[(Call, Answer)]) -> Result<usiz
 }
 
 #[test]
-fn a_pump_that_is_cancelled_while_it_waits_stops(rt: HostRuntime) -> Result<(), Fail> {
+fn a_pump_that_is_cancelled_while_it_waits_stops(rt: HostRuntime) {
     let rows = [
         (Call::Gets(0, 3), Answer::Done),
         (Call::Started, Answer::Yes(false)),
@@ -182,11 +181,10 @@ fn a_pump_that_is_cancelled_while_it_waits_stops(rt: HostRuntime) -> Result<(), 
         (Call::Shown(3), Answer::Yes(true)),
     ];
     assert_eq!(rt; first_wrong(rt.alloc(), 4, &rows), Ok(3));
-    Ok(())
 }
 
 #[test]
-fn bytes_come_a_buffer_at_a_time_and_then_the_end(rt: HostRuntime) -> Result<(), Fail> {
+fn bytes_come_a_buffer_at_a_time_and_then_the_end(rt: HostRuntime) {
     let rows = [
         (Call::Gets(0, 10), Answer::Done),
         (Call::Ends(OK), Answer::Done),
@@ -206,11 +204,10 @@ fn bytes_come_a_buffer_at_a_time_and_then_the_end(rt: HostRuntime) -> Result<(),
         (Call::Stream, Answer::Stop(None)),
     ];
     assert_eq!(rt; first_wrong(rt.alloc(), 4, &rows), Ok(10));
-    Ok(())
 }
 
 #[test]
-fn a_failed_stream_gives_its_bytes_before_its_status(rt: HostRuntime) -> Result<(), Fail> {
+fn a_failed_stream_gives_its_bytes_before_its_status(rt: HostRuntime) {
     let rows = [
         (Call::Turn, DID),
         (Call::Turn, WAITING),
@@ -227,11 +224,10 @@ fn a_failed_stream_gives_its_bytes_before_its_status(rt: HostRuntime) -> Result<
         (Call::Stream, Answer::Stop(None)),
     ];
     assert_eq!(rt; first_wrong(rt.alloc(), 1, &rows), Ok(3));
-    Ok(())
 }
 
 #[test]
-fn a_cancel_before_the_start_lets_the_start_come(rt: HostRuntime) -> Result<(), Fail> {
+fn a_cancel_before_the_start_lets_the_start_come(rt: HostRuntime) {
     let rows = [
         (Call::Gets(0, 3), Answer::Done),
         (Call::Cancel(OK), Answer::Refused),
@@ -245,5 +241,4 @@ fn a_cancel_before_the_start_lets_the_start_come(rt: HostRuntime) -> Result<(), 
         (Call::Turn, DEAD),
     ];
     assert_eq!(rt; first_wrong(rt.alloc(), 65_536, &rows), Ok(0));
-    Ok(())
 }

@@ -7,8 +7,6 @@ use nk_base::{Class, Classed, Target};
 use nk_queue::laws::{PlainQueue, QueueAnswer, QueueBody, QueueCall, answers_of, same_answers};
 use nk_queue::{EventQueue, Offer, Taken};
 use std::alloc::Global;
-use std::process::Abort;
-use std::test::Fail;
 
 /// An event that is known by a number.
 #[derive(Clone, Copy, Debug, Drop, PartialEq, Eq)]
@@ -45,11 +43,7 @@ const DATA: Event = Event {
 };
 
 // An event runs at once, and the next waits for the flush to take it.
-fn runs_and_takes<Q: QueueBody<Event>>(
-    rt: &impl Abort,
-    alloc: Global,
-    queue: &mut Q,
-) -> Result<(), Fail>
+fn runs_and_takes<Q: QueueBody<Event>>(alloc: Global, queue: &mut Q) -> Option<bool>
     requires { Q.state queue.old ≡ empty_queue }
 {
     let calls = vec![in alloc;
@@ -58,7 +52,8 @@ fn runs_and_takes<Q: QueueBody<Event>>(
         QueueCall::Offer(B, Target::Main),
         QueueCall::Take(Target::Main),
         QueueCall::Take(Target::Main),
-    ]?;
+    ]
+    .ok()?;
     let wants = [
         QueueAnswer::Done,
         QueueAnswer::Offered(Offer::RunNow(A)),
@@ -66,19 +61,12 @@ fn runs_and_takes<Q: QueueBody<Event>>(
         QueueAnswer::Took(Taken::Event(B)),
         QueueAnswer::Took(Taken::Ended),
     ];
-    assert_eq!(rt;
-        answers_of(alloc, queue, calls)?.as_slice(),
-        wants.as_slice()
-    );
-    Ok(())
+    let answers = answers_of(alloc, queue, calls).ok()?;
+    Some(answers.as_slice() == wants.as_slice())
 }
 
 // Data goes to a worker, and the queue is suspended before its task runs.
-fn posts_to_a_worker<Q: QueueBody<Event>>(
-    rt: &impl Abort,
-    alloc: Global,
-    queue: &mut Q,
-) -> Result<(), Fail>
+fn posts_to_a_worker<Q: QueueBody<Event>>(alloc: Global, queue: &mut Q) -> Option<bool>
     requires { Q.state queue.old ≡ empty_queue }
 {
     let calls = vec![in alloc;
@@ -92,7 +80,8 @@ fn posts_to_a_worker<Q: QueueBody<Event>>(
         QueueCall::Complete(WORKER),
         QueueCall::Take(WORKER),
         QueueCall::Take(WORKER),
-    ]?;
+    ]
+    .ok()?;
     let wants = [
         QueueAnswer::Done,
         QueueAnswer::Done,
@@ -105,19 +94,12 @@ fn posts_to_a_worker<Q: QueueBody<Event>>(
         QueueAnswer::Took(Taken::Event(DATA)),
         QueueAnswer::Took(Taken::Ended),
     ];
-    assert_eq!(rt;
-        answers_of(alloc, queue, calls)?.as_slice(),
-        wants.as_slice()
-    );
-    Ok(())
+    let answers = answers_of(alloc, queue, calls).ok()?;
+    Some(answers.as_slice() == wants.as_slice())
 }
 
 // An event that is queued by force is taken afterwards.
-fn queues_by_force<Q: QueueBody<Event>>(
-    rt: &impl Abort,
-    alloc: Global,
-    queue: &mut Q,
-) -> Result<(), Fail>
+fn queues_by_force<Q: QueueBody<Event>>(alloc: Global, queue: &mut Q) -> Option<bool>
     requires { Q.state queue.old ≡ empty_queue }
 {
     let calls = vec![in alloc;
@@ -126,7 +108,8 @@ fn queues_by_force<Q: QueueBody<Event>>(
         QueueCall::Offer(A, Target::Main),
         QueueCall::EndForced(Target::Main),
         QueueCall::Take(Target::Main),
-    ]?;
+    ]
+    .ok()?;
     let wants = [
         QueueAnswer::Done,
         QueueAnswer::Done,
@@ -134,15 +117,12 @@ fn queues_by_force<Q: QueueBody<Event>>(
         QueueAnswer::Began(true),
         QueueAnswer::Took(Taken::Event(A)),
     ];
-    assert_eq!(rt;
-        answers_of(alloc, queue, calls)?.as_slice(),
-        wants.as_slice()
-    );
-    Ok(())
+    let answers = answers_of(alloc, queue, calls).ok()?;
+    Some(answers.as_slice() == wants.as_slice())
 }
 
 // What is prepended last is taken first.
-fn prepends<Q: QueueBody<Event>>(rt: &impl Abort, alloc: Global, queue: &mut Q) -> Result<(), Fail>
+fn prepends<Q: QueueBody<Event>>(alloc: Global, queue: &mut Q) -> Option<bool>
     requires { Q.state queue.old ≡ empty_queue }
 {
     let calls = vec![in alloc;
@@ -154,7 +134,8 @@ fn prepends<Q: QueueBody<Event>>(rt: &impl Abort, alloc: Global, queue: &mut Q) 
         QueueCall::Complete(Target::Main),
         QueueCall::Take(Target::Main),
         QueueCall::Take(Target::Main),
-    ]?;
+    ]
+    .ok()?;
     let wants = [
         QueueAnswer::Done,
         QueueAnswer::Done,
@@ -165,15 +146,12 @@ fn prepends<Q: QueueBody<Event>>(rt: &impl Abort, alloc: Global, queue: &mut Q) 
         QueueAnswer::Took(Taken::Event(B)),
         QueueAnswer::Took(Taken::Event(A)),
     ];
-    assert_eq!(rt;
-        answers_of(alloc, queue, calls)?.as_slice(),
-        wants.as_slice()
-    );
-    Ok(())
+    let answers = answers_of(alloc, queue, calls).ok()?;
+    Some(answers.as_slice() == wants.as_slice())
 }
 
 // A cleared queue has its room again.
-fn clears<Q: QueueBody<Event>>(rt: &impl Abort, alloc: Global, queue: &mut Q) -> Result<(), Fail>
+fn clears<Q: QueueBody<Event>>(alloc: Global, queue: &mut Q) -> Option<bool>
     requires { Q.state queue.old ≡ empty_queue }
 {
     let calls = vec![in alloc;
@@ -186,7 +164,8 @@ fn clears<Q: QueueBody<Event>>(rt: &impl Abort, alloc: Global, queue: &mut Q) ->
         QueueCall::Waiting,
         QueueCall::Flushing,
         QueueCall::Posted(Target::Main),
-    ]?;
+    ]
+    .ok()?;
     let wants = [
         QueueAnswer::Done,
         QueueAnswer::Done,
@@ -198,58 +177,85 @@ fn clears<Q: QueueBody<Event>>(rt: &impl Abort, alloc: Global, queue: &mut Q) ->
         QueueAnswer::Flushing(None),
         QueueAnswer::Number(0),
     ];
-    assert_eq!(rt;
-        answers_of(alloc, queue, calls)?.as_slice(),
-        wants.as_slice()
+    let answers = answers_of(alloc, queue, calls).ok()?;
+    Some(answers.as_slice() == wants.as_slice())
+}
+
+#[test]
+fn queue_calls(rt: HostRuntime) {
+    let alloc = rt.alloc();
+    let are_so = [
+        runs_and_takes(alloc, &mut EventQueue::new(alloc)),
+        posts_to_a_worker(alloc, &mut EventQueue::new(alloc)),
+        queues_by_force(alloc, &mut EventQueue::new(alloc)),
+        clears(alloc, &mut EventQueue::new(alloc)),
+    ];
+    assert_eq!(rt; are_so, [Some(true); 4]);
+}
+
+#[test]
+fn prepend_order(rt: HostRuntime) {
+    let is_so = prepends(rt.alloc(), &mut EventQueue::new(rt.alloc()));
+    assert_eq!(rt; is_so, Some(true));
+}
+
+// Both bodies answer an offer from another target alike.
+fn answer_alike(alloc: Global) -> Option<bool> {
+    let calls = vec![in alloc; QueueCall::Reserve(1), QueueCall::Offer(A, Target::Back)].ok()?;
+    let same_calls = vec![in alloc; QueueCall::Reserve(1), QueueCall::Offer(A, Target::Back)].ok()?;
+    let both = same_answers(
+        alloc,
+        &mut EventQueue::new(alloc),
+        &mut PlainQueue::new(alloc),
+        calls,
+        same_calls,
     );
-    Ok(())
+    let (chained, plain) = both.ok()?;
+    Some(chained.as_slice() == plain.as_slice())
 }
 
 #[test]
-fn queue_calls(rt: HostRuntime) -> Result<(), Fail> {
-    runs_and_takes(&rt, rt.alloc(), &mut EventQueue::new(rt.alloc()))?;
-    posts_to_a_worker(&rt, rt.alloc(), &mut EventQueue::new(rt.alloc()))?;
-    queues_by_force(&rt, rt.alloc(), &mut EventQueue::new(rt.alloc()))?;
-    clears(&rt, rt.alloc(), &mut EventQueue::new(rt.alloc()))
+fn both_queue_bodies(rt: HostRuntime) {
+    let alloc = rt.alloc();
+    let are_so = [
+        runs_and_takes(alloc, &mut PlainQueue::new(alloc)),
+        posts_to_a_worker(alloc, &mut PlainQueue::new(alloc)),
+        queues_by_force(alloc, &mut PlainQueue::new(alloc)),
+        prepends(alloc, &mut PlainQueue::new(alloc)),
+        clears(alloc, &mut PlainQueue::new(alloc)),
+        answer_alike(alloc),
+    ];
+    assert_eq!(rt; are_so, [Some(true); 6]);
 }
 
-#[test]
-fn prepend_order(rt: HostRuntime) -> Result<(), Fail> {
-    prepends(&rt, rt.alloc(), &mut EventQueue::new(rt.alloc()))
-}
+/// Whether an event runs at once here and from behind, then whether it does in a suspended queue, cleared or not, and
+/// whether an event is next there; the target that a resume posts to, whether its task begins, and whether the event
+/// that was put in front is the next.
+type Looks = ([bool; 2], [bool; 3], Option<Target>, bool, bool);
 
-#[test]
-fn both_queue_bodies(rt: HostRuntime) -> Result<(), Fail> {
-    runs_and_takes(&rt, rt.alloc(), &mut PlainQueue::new(rt.alloc()))?;
-    posts_to_a_worker(&rt, rt.alloc(), &mut PlainQueue::new(rt.alloc()))?;
-    queues_by_force(&rt, rt.alloc(), &mut PlainQueue::new(rt.alloc()))?;
-    prepends(&rt, rt.alloc(), &mut PlainQueue::new(rt.alloc()))?;
-    clears(&rt, rt.alloc(), &mut PlainQueue::new(rt.alloc()))?;
-
-    let (chained, plain) = same_answers(
-        rt.alloc(),
-        &mut EventQueue::new(rt.alloc()),
-        &mut PlainQueue::new(rt.alloc()),
-        vec![in rt.alloc(); QueueCall::Reserve(1), QueueCall::Offer(A, Target::Back)]?,
-        vec![in rt.alloc(); QueueCall::Reserve(1), QueueCall::Offer(A, Target::Back)]?,
-    )?;
-    assert_eq!(rt; chained.as_slice(), plain.as_slice());
-    Ok(())
-}
-
-#[test]
-fn readers(rt: HostRuntime) -> Result<(), Fail> {
-    let mut queue = EventQueue::new(rt.alloc());
-    queue.reserve(1)?;
-    assert!(rt; queue.runs_now(&A, Target::Main));
-    assert!(rt; !queue.runs_now(&A, Target::Back));
+fn looks(alloc: Global) -> Option<Looks> {
+    let mut queue = EventQueue::new(alloc);
+    queue.reserve(1).ok()?;
+    let idle = [
+        queue.runs_now(&A, Target::Main),
+        queue.runs_now(&A, Target::Back),
+    ];
     queue.suspend();
     queue.prepend(B);
-    assert!(rt; !queue.runs_now(&A, Target::Main));
-    assert!(rt; !queue.runs_cleared(&A, Target::Main));
-    assert_eq!(rt; queue.next(Target::Main), None);
-    assert_eq!(rt; queue.resume(), Some(Target::Main));
-    assert!(rt; queue.complete(Target::Main));
-    assert_eq!(rt; queue.next(Target::Main), Some(&B));
-    Ok(())
+    let suspended = [
+        queue.runs_now(&A, Target::Main),
+        queue.runs_cleared(&A, Target::Main),
+        queue.next(Target::Main).is_some(),
+    ];
+    let resumed = queue.resume();
+    let begins = queue.complete(Target::Main);
+    let is_next = queue.next(Target::Main) == Some(&B);
+    Some((idle, suspended, resumed, begins, is_next))
+}
+
+#[test]
+fn readers(rt: HostRuntime) {
+    let suspended = [false, false, false];
+    let wants = ([true, false], suspended, Some(Target::Main), true, true);
+    assert_eq!(rt; looks(rt.alloc()), Some(wants));
 }

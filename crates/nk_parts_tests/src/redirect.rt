@@ -100,32 +100,42 @@ fn verify(hop: u32, status: Status) -> Option<Answer> {
     Some(Answer::Verify { hop, status })
 }
 
-#[test]
-fn twenty_redirects_are_followed_and_no_more(rt: HostRuntime) {
-    let mut parent = ParentHalf::new();
-    let mut child = ChildHalf::new();
+/// Whether a redirect that is allowed is followed once, where so many were followed before.
+fn is_followed(parent: &mut ParentHalf, child: &mut ChildHalf, done: u32) -> bool {
+    let asked = [
+        ParentRow(ParentCall::Begin(7), ASK, Some(7), done),
+        ParentRow(ParentCall::Verified(8, OK), STRAY, Some(7), done),
+        ParentRow(ParentCall::Verified(7, OK), FOLLOW, None, done),
+        ParentRow(
+            ParentCall::Followed,
+            ParentAnswer::Counted,
+            None,
+            done.wrapping_add(1),
+        ),
+    ];
     let answered = [
         ChildRow(ChildCall::Begin(7), None, Some(7)),
         ChildRow(ChildCall::Verdict(OK, Verdict::Allow), verify(7, OK), None),
     ];
+    first_wrong_of_parent(parent, &asked).is_none()
+        && first_wrong_of_child(child, &answered).is_none()
+}
+
+/// The number of the first of twenty redirects that is not followed.
+fn first_not_followed(parent: &mut ParentHalf, child: &mut ChildHalf) -> Option<u32> {
     for done in 0..20 {
-        let rows = [
-            ParentRow(ParentCall::Begin(7), ASK, Some(7), done),
-            ParentRow(ParentCall::Verified(8, OK), STRAY, Some(7), done),
-            ParentRow(ParentCall::Verified(7, OK), FOLLOW, None, done),
-            ParentRow(ParentCall::Followed, ParentAnswer::Counted, None, done + 1),
-        ];
-        assert_eq!(rt;
-            first_wrong_of_parent(&mut parent, &rows),
-            None,
-            "after {done}"
-        );
-        assert_eq!(rt;
-            first_wrong_of_child(&mut child, &answered),
-            None,
-            "after {done}"
-        );
+        if !is_followed(parent, child, done) {
+            return Some(done);
+        }
     }
+    None
+}
+
+#[test]
+fn twenty_redirects_are_followed_and_no_more(rt: HostRuntime) {
+    let mut parent = ParentHalf::new();
+    let mut child = ChildHalf::new();
+    assert_eq!(rt; first_not_followed(&mut parent, &mut child), None);
     let rows = [
         ParentRow(ParentCall::Begin(7), LOOP, None, 20),
         ParentRow(ParentCall::Verified(7, OK), STRAY, None, 20),

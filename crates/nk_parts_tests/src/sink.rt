@@ -10,7 +10,6 @@ use nk_plan::{ListenerKind, Readers};
 use nk_pump::{Pump, Turn};
 use nk_sink::{Listener, PipeReader};
 use std::alloc::Global;
-use std::test::Fail;
 
 /// A call of a listener. Data is the bytes of the text between two places.
 #[derive(Clone, Copy, Drop)]
@@ -130,6 +129,26 @@ fn are_ends(readers: &Readers, ends: &[End]) -> bool {
     true
 }
 
+fn ends_are(listener: Listener, ends: &[End]) -> bool {
+    match listener.into_ends() {
+        Ok(readers) => are_ends(&readers, ends),
+        Err(_) => false,
+    }
+}
+
+fn first_wrong_of_calls(
+    alloc: Global,
+    listener: &mut Listener,
+    rows: &[(Call, Answer)],
+) -> Option<usize> {
+    for (i, row) in rows.iter().enumerate() {
+        if make(alloc, listener, row.0) != row.1 {
+            return Some(i);
+        }
+    }
+    None
+}
+
 /// The number of the first call of a new listener that answers otherwise than its row says, or of none where its
 /// readers have other ends in the end.
 fn first_wrong(
@@ -144,18 +163,13 @@ fn first_wrong(
     let Ok(mut listener) = Listener::new(alloc, kind) else {
         return Some(0);
     };
-    for (i, row) in rows.iter().enumerate() {
-        if make(alloc, &mut listener, row.0) != row.1 {
-            return Some(i);
-        }
+    if let Some(i) = first_wrong_of_calls(alloc, &mut listener, rows) {
+        return Some(i);
     }
-    if listener.kind() != kind {
-        return Some(rows.len());
+    if listener.kind() == kind && ends_are(listener, ends) {
+        return None;
     }
-    match listener.into_ends() {
-        Ok(readers) if are_ends(&readers, ends) => None,
-        _ => Some(rows.len()),
-    }
+    Some(rows.len())
 }
 
 const fn pipe(limit: u32, readers: u8) -> ListenerKind {
@@ -167,7 +181,7 @@ const fn pipe(limit: u32, readers: u8) -> ListenerKind {
 }
 
 #[test]
-fn two_readers_have_all_bytes_and_the_stop(rt: HostRuntime) -> Result<(), Fail> {
+fn two_readers_have_all_bytes_and_the_stop(rt: HostRuntime) {
     let rows = [
         (Call::Start, Answer::Done),
         (Call::Bytes(0, 20), Answer::Done),
@@ -193,11 +207,10 @@ fn two_readers_have_all_bytes_and_the_stop(rt: HostRuntime) -> Result<(), Fail> 
     ];
     let ends = [End(20, Some(OK)), End(20, Some(OK))];
     assert_eq!(rt; first_wrong(rt.alloc(), pipe(2, 2), &rows, &ends), None);
-    Ok(())
 }
 
 #[test]
-fn a_reader_waits_for_what_is_kept(rt: HostRuntime) -> Result<(), Fail> {
+fn a_reader_waits_for_what_is_kept(rt: HostRuntime) {
     let rows = [
         (Call::Start, Answer::Done),
         (Call::Bytes(0, 6), Answer::Done),
@@ -210,11 +223,10 @@ fn a_reader_waits_for_what_is_kept(rt: HostRuntime) -> Result<(), Fail> {
         first_wrong(rt.alloc(), pipe(1, 1), &rows, &[End(6, None)]),
         None
     );
-    Ok(())
 }
 
 #[test]
-fn an_entry_behind_a_stop_changes_no_pipe(rt: HostRuntime) -> Result<(), Fail> {
+fn an_entry_behind_a_stop_changes_no_pipe(rt: HostRuntime) {
     let rows = [
         (Call::Start, Answer::Done),
         (Call::Bytes(0, 20), Answer::Done),
@@ -235,11 +247,10 @@ fn an_entry_behind_a_stop_changes_no_pipe(rt: HostRuntime) -> Result<(), Fail> {
         first_wrong(rt.alloc(), pipe(1, 1), &rows, &[End(20, Some(RESET))]),
         None
     );
-    Ok(())
 }
 
 #[test]
-fn a_plain_listener_keeps_the_entries_alone(rt: HostRuntime) -> Result<(), Fail> {
+fn a_plain_listener_keeps_the_entries_alone(rt: HostRuntime) {
     let rows = [
         (Call::Start, Answer::Done),
         (Call::Bytes(0, 20), Answer::Done),
@@ -253,11 +264,10 @@ fn a_plain_listener_keeps_the_entries_alone(rt: HostRuntime) -> Result<(), Fail>
         first_wrong(rt.alloc(), ListenerKind::Plain, &rows, &[]),
         None
     );
-    Ok(())
 }
 
 #[test]
-fn the_furthest_reader_makes_room_for_what_is_kept(rt: HostRuntime) -> Result<(), Fail> {
+fn the_furthest_reader_makes_room_for_what_is_kept(rt: HostRuntime) {
     let rows = [
         (Call::Read(1), DID),
         (Call::Read(1), IDLE),
@@ -286,7 +296,6 @@ fn the_furthest_reader_makes_room_for_what_is_kept(rt: HostRuntime) -> Result<()
     let all = End(9, Some(OK));
     let ends = [all, End(4, None), none, none, none, none, none, all];
     assert_eq!(rt; first_wrong(rt.alloc(), pipe(1, 8), &rows, &ends), None);
-    Ok(())
 }
 
 /// Whether a reader of this number was made.
@@ -355,25 +364,42 @@ fn ask(pump: &mut Pump, pipe: &mut Pipe, call: PumpCall) -> PumpAnswer {
     }
 }
 
-/// The number of the first call of a new pump over a new pipe that answers otherwise than its row says, or the bytes
-/// that it has shown in the end.
-fn first_wrong_of_pump(alloc: Global, rows: &[(PumpCall, PumpAnswer)]) -> Result<Pump, usize> {
-    let Ok((mut pipe, 1)) = Pipe::new(alloc, 4, 2) else {
-        return Err(0);
-    };
-    let Ok(mut pump) = Pump::new(alloc, 4) else {
-        return Err(0);
-    };
+/// The number of the first call that answers otherwise than its row says, or of none where the pump has shown other
+/// bytes in the end.
+fn first_wrong_of(
+    pump: &mut Pump,
+    pipe: &mut Pipe,
+    rows: &[(PumpCall, PumpAnswer)],
+    shown: &[u8],
+) -> Option<usize> {
     for (i, row) in rows.iter().enumerate() {
-        if ask(&mut pump, &mut pipe, row.0) != row.1 {
-            return Err(i);
+        if ask(pump, pipe, row.0) != row.1 {
+            return Some(i);
         }
     }
-    Ok(pump)
+    if pump.bytes().as_slice() != shown {
+        return Some(rows.len());
+    }
+    None
+}
+
+/// The same for a new pump over a new pipe.
+fn first_wrong_of_pump(
+    alloc: Global,
+    rows: &[(PumpCall, PumpAnswer)],
+    shown: &[u8],
+) -> Option<usize> {
+    let Ok((mut pipe, 1)) = Pipe::new(alloc, 4, 2) else {
+        return Some(0);
+    };
+    match Pump::new(alloc, 4) {
+        Ok(mut pump) => first_wrong_of(&mut pump, &mut pipe, rows, shown),
+        Err(_) => Some(0),
+    }
 }
 
 #[test]
-fn a_cancel_closes_the_only_reader_and_so_the_pipe(rt: HostRuntime) -> Result<(), Fail> {
+fn a_cancel_closes_the_only_reader_and_so_the_pipe(rt: HostRuntime) {
     let rows = [
         (PumpCall::Write(3), PumpAnswer::Write(Write::Wrote(3))),
         (PumpCall::Turn(1), PumpAnswer::Turn(Turn::Did)),
@@ -389,7 +415,5 @@ fn a_cancel_closes_the_only_reader_and_so_the_pipe(rt: HostRuntime) -> Result<()
             PumpAnswer::Write(Write::Closed(ABORTED)),
         ),
     ];
-    let pump = first_wrong_of_pump(rt.alloc(), &rows)?;
-    assert_eq!(rt; pump.bytes().as_slice(), b"abc".as_slice());
-    Ok(())
+    assert_eq!(rt; first_wrong_of_pump(rt.alloc(), &rows, b"abc"), None);
 }

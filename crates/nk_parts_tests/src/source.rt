@@ -4,7 +4,6 @@ use nk_base::{Fields, Head, Memory, Piece, Status};
 use nk_plan::{Finish, Hop, Pieces};
 use nk_source::{Next, ResponseSource};
 use std::alloc::Global;
-use std::test::Fail;
 
 /// A call of a source.
 #[derive(Clone, Copy, Drop)]
@@ -71,28 +70,30 @@ fn first_wrong(mut source: ResponseSource, rows: &[(Call, Answer)]) -> Option<us
     None
 }
 
-/// The text, cut into pieces of these sizes.
-fn pieces(alloc: Global, sizes: &[usize]) -> Result<Pieces, Fail> {
-    let mut all = Pieces::new(alloc);
+/// Cuts the text into pieces of these sizes.
+fn cut(alloc: Global, sizes: &[usize], pieces: &mut Pieces) -> Option<()> {
     let mut rest = TEXT;
     for &size in sizes {
         if size > rest.len() {
-            return Err(Fail::from("the text is too short"));
+            return None;
         }
-        all.push(Piece::new(alloc, &rest[..size])?)?;
+        let piece = Piece::new(alloc, &rest[..size]).ok()?;
+        pieces.push(piece).ok()?;
         rest = &rest[size..];
     }
-    Ok(all)
+    Some(())
 }
 
-fn source(alloc: Global, sizes: &[usize], finish: Finish) -> Result<ResponseSource, Fail> {
-    let pieces = pieces(alloc, sizes)?;
+/// A source of the text in pieces of these sizes.
+fn source(alloc: Global, sizes: &[usize], finish: Finish) -> Option<ResponseSource> {
+    let mut pieces = Pieces::new(alloc);
+    cut(alloc, sizes, &mut pieces)?;
     if pieces.len() > 65_536 {
-        return Err(Fail::from("too many pieces"));
+        return None;
     }
-    let head = Head::new(200, Fields::new(alloc))?;
+    let head = Head::new(200, Fields::new(alloc)).ok()?;
     let trailers = Fields::new(alloc);
-    Ok(ResponseSource::new(Hop::Response {
+    Some(ResponseSource::new(Hop::Response {
         head,
         pieces,
         finish,
@@ -100,9 +101,22 @@ fn source(alloc: Global, sizes: &[usize], finish: Finish) -> Result<ResponseSour
     }))
 }
 
+/// The same for a source of the text in pieces of these sizes.
+fn first_wrong_of(
+    alloc: Global,
+    sizes: &[usize],
+    finish: Finish,
+    rows: &[(Call, Answer)],
+) -> Option<usize> {
+    match source(alloc, sizes, finish) {
+        Some(source) => first_wrong(source, rows),
+        None => Some(0),
+    }
+}
+
 #[test]
-fn pieces_come_at_their_offsets_and_then_the_end(rt: HostRuntime) -> Result<(), Fail> {
-    let cut = source(rt.alloc(), &[3, 2], Finish::Fail(Status::NET_RESET))?;
+fn pieces_come_at_their_offsets_and_then_the_end(rt: HostRuntime) {
+    let cut = Finish::Fail(Status::NET_RESET);
     let rows = [
         (Call::Size, Answer::Size(Some(3))),
         (Call::Next, Answer::Piece(0, 3)),
@@ -113,13 +127,11 @@ fn pieces_come_at_their_offsets_and_then_the_end(rt: HostRuntime) -> Result<(), 
         (Call::Next, Answer::EndFail(Status::NET_RESET)),
         (Call::Size, Answer::Size(None)),
     ];
-    assert_eq!(rt; first_wrong(cut, &rows), None);
-    Ok(())
+    assert_eq!(rt; first_wrong_of(rt.alloc(), &[3, 2], cut, &rows), None);
 }
 
 #[test]
-fn a_look_at_the_next_changes_nothing(rt: HostRuntime) -> Result<(), Fail> {
-    let whole = source(rt.alloc(), &[1, 4, 3], Finish::Good)?;
+fn a_look_at_the_next_changes_nothing(rt: HostRuntime) {
     let rows = [
         (Call::Peek, Answer::Piece(0, 1)),
         (Call::Peek, Answer::Piece(0, 1)),
@@ -132,21 +144,19 @@ fn a_look_at_the_next_changes_nothing(rt: HostRuntime) -> Result<(), Fail> {
         (Call::Next, Answer::EndOk),
         (Call::Next, Answer::EndOk),
     ];
-    assert_eq!(rt; first_wrong(whole, &rows), None);
-    Ok(())
+    assert_eq!(rt;
+        first_wrong_of(rt.alloc(), &[1, 4, 3], Finish::Good, &rows),
+        None
+    );
 }
 
 #[test]
-fn a_load_without_a_body_is_at_its_end(rt: HostRuntime) -> Result<(), Fail> {
+fn a_load_without_a_body_is_at_its_end(rt: HostRuntime) {
     let rows = [
         (Call::Size, Answer::Size(None)),
         (Call::Peek, Answer::EndOk),
         (Call::Next, Answer::EndOk),
     ];
     assert_eq!(rt; first_wrong(ResponseSource::empty(rt.alloc()), &rows), None);
-    assert_eq!(rt;
-        first_wrong(source(rt.alloc(), &[], Finish::Good)?, &rows),
-        None
-    );
-    Ok(())
+    assert_eq!(rt; first_wrong_of(rt.alloc(), &[], Finish::Good, &rows), None);
 }

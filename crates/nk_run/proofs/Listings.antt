@@ -160,6 +160,15 @@ stops_first (Whole rest left) s new e all more ms is next f at =
     subst (λ (x : FrameError). Stops (failure_of x) (all ++ more)) (sym next.1)
     (stop_decode (all ++ more) ms (s.unused ++ more) rest (left ++ more) s.offset next.0 (frames_more ms all s.unused more f) at (whole_more s.unused rest left more is) next.2)
 
+-- where nothing whole stands first, the list stays
+none_next : (s new : Stream) (f : First) → IsNext s f (Ok None) new → new ≡ s
+none_next s new Part next = next.1
+none_next s new (BadLength n) next = absurd (let e = next.0 in cc)
+none_next s new (Whole rest more) next = absurd next
+
+pub listed_stays : (all text : List ℕ) (s new : Stream) → IsNext s (first s.unused) (Ok None) new → Listed all s text → Listed all new text
+listed_stays all text s new next h = subst (λ (t : Stream). Listed all t text) (sym (none_next s new (first s.unused) next)) h
+
 -- an error that next told
 pub stops_next : FirstIs → (all more text : List ℕ) (s new : Stream) (e : FrameError) → AreBytes (all ++ more) → Listed all s text
     → IsNext s (first s.unused) (Err e) new → Stops (failure_of e) (all ++ more)

@@ -3,7 +3,7 @@
 ghost use Rattle.std.specs.Prelude.{◌≤◌, IfOk, length, sum_by};
 ghost use Rattle.nk_gen.specs.Summing.{counts_piece, size_of, read_by};
 
-use crate::rows::all_right;
+use crate::rows::{Row, all_right, right};
 use crate::sample::{Text, piece};
 use nk_base::{ByteList, Entry, Memory, Status};
 use nk_gen::{make_script, summary};
@@ -11,7 +11,7 @@ use nk_plan::{ChannelEnd, ChildJournal, Ending, Ends, ParentJournal, ReaderEnd, 
 use std::alloc::Global;
 
 /// A number, how many bytes and channels its script has, and what that begins and ends with.
-type Row = (u32, usize, usize, &'static str, &'static str);
+type Made = (u32, usize, usize, &'static str, &'static str);
 
 const CHANNEL: &[u8] = b"\nchannel\n";
 
@@ -26,7 +26,7 @@ fn channels(script: &[u8]) -> usize {
     number
 }
 
-fn is_script(script: &[u8], row: &Row) -> bool {
+fn is_script(script: &[u8], row: &Made) -> bool {
     let (_, size, count, begin, end) = row;
     script.len() == *size
         && channels(script) == *count
@@ -34,27 +34,16 @@ fn is_script(script: &[u8], row: &Row) -> bool {
         && script.ends_with(end.as_bytes())
 }
 
-// Whether the number makes such a script.
-fn is_made(alloc: Global, row: &Row) -> bool {
-    match make_script(alloc, row.0) {
-        Ok(script) => is_script(&script, row),
-        Err(_) => false,
-    }
-}
-
-// The number of the first row that makes another script.
-fn first_wrong(alloc: Global, rows: &[Row]) -> Option<usize> {
-    let mut number: usize = 0;
-    for row in rows {
-        if !is_made(alloc, row) {
-            return Some(number);
+impl Row for Made {
+    fn is_right(&self, alloc: Global) -> bool {
+        match make_script(alloc, self.0) {
+            Ok(script) => is_script(&script, self),
+            Err(_) => false,
         }
-        number = number.wrapping_add(1);
     }
-    None
 }
 
-const MADE: &[Row] = &[
+const MADE: &[Made] = &[
     (
         7,
         11_936,
@@ -87,7 +76,7 @@ const MADE: &[Row] = &[
 
 #[test]
 fn seven_makes_24_channels_in_11936_bytes(rt: HostRuntime) {
-    all_right(&rt, first_wrong(rt.alloc(), MADE));
+    all_right(&rt, rt.alloc(), MADE);
 }
 
 // What a listener saw of a body of this one piece.
@@ -164,7 +153,10 @@ fn full_summary(alloc: Global, ending: Ending) -> Result<Vec<u8>, Memory> {
 #[test]
 fn a_summary_has_six_lines(rt: HostRuntime) {
     let text = "channels 1\nstopped 1\npieces 0\nbytes 0\nreaders 0\nread 0\n";
-    assert!(rt; is_text(bare_summary(rt.alloc()), text));
+    right(&rt, is_text(bare_summary(rt.alloc()), text));
     let text = "channels 1\nstopped 0\npieces 1\nbytes 131072\nreaders 1\nread 11\n";
-    assert!(rt; is_text(full_summary(rt.alloc(), Ending::Suspended), text));
+    right(
+        &rt,
+        is_text(full_summary(rt.alloc(), Ending::Suspended), text),
+    );
 }

@@ -1,7 +1,7 @@
 // Bytes in and out: what sources give and sinks take, call by call, and what is read and written by the two calls over a
 // whole one.
 
-use crate::rows::all_right;
+use crate::rows::{Row, all_right, none_wrong, right};
 use nk_io::{
     MemSink, MemSource, Put, ReadError, Sink, Source, StdSink, StdSource, SureSink, SureSource,
     Take, WriteFault, read_all, write_all,
@@ -72,24 +72,14 @@ fn reads<I: Source>(
     }
 }
 
-fn is_read(alloc: Global, row: &Reading) -> bool {
-    let (bytes, most, fails, limit, error) = *row;
-    match source(alloc, bytes, most, fails) {
-        Ok(mut source) => reads(alloc, &mut source, limit, bytes, error),
-        Err(_) => false,
-    }
-}
-
-// The number of the first row that is read otherwise.
-fn first_misread(alloc: Global, rows: &[Reading]) -> Option<usize> {
-    let mut number: usize = 0;
-    for row in rows {
-        if !is_read(alloc, row) {
-            return Some(number);
+impl Row for Reading {
+    fn is_right(&self, alloc: Global) -> bool {
+        let (bytes, most, fails, limit, error) = *self;
+        match source(alloc, bytes, most, fails) {
+            Ok(mut source) => reads(alloc, &mut source, limit, bytes, error),
+            Err(_) => false,
         }
-        number = number.wrapping_add(1);
     }
-    None
 }
 
 const LARGE: Option<ReadError> = Some(ReadError::TooLarge);
@@ -111,7 +101,7 @@ const LIMITED: &[Reading] = &[
 
 #[test]
 fn a_source_is_read_to_its_end_or_to_its_limit(rt: HostRuntime) {
-    all_right(&rt, first_misread(rt.alloc(), LIMITED));
+    all_right(&rt, rt.alloc(), LIMITED);
 }
 
 const FAILING: &[Reading] = &[
@@ -127,7 +117,7 @@ const FAILING: &[Reading] = &[
 
 #[test]
 fn a_source_that_fails_at_a_take_gives_a_fault(rt: HostRuntime) {
-    all_right(&rt, first_misread(rt.alloc(), FAILING));
+    all_right(&rt, rt.alloc(), FAILING);
 }
 
 // Whether a take into a buffer of so many bytes answers so, and leaves these at its front.
@@ -149,6 +139,14 @@ fn first_mistaken(source: &mut MemSource, calls: &[(usize, Take, &[u8])]) -> Opt
     None
 }
 
+// The same by a source of a channel's line, of 4 bytes at once, that fails at the second take and the sixth.
+fn first_of_line(alloc: Global, calls: &[(usize, Take, &[u8])]) -> Option<usize> {
+    match source(alloc, b"channel 1", 4, [2, 6]) {
+        Ok(mut source) => first_mistaken(&mut source, calls),
+        Err(_) => Some(usize::MAX),
+    }
+}
+
 const TAKES: &[(usize, Take, &[u8])] = &[
     (8, Take::Took(4), b"chan"),
     (8, Take::Failed, b""),
@@ -161,36 +159,53 @@ const TAKES: &[(usize, Take, &[u8])] = &[
 ];
 
 #[test]
-fn a_source_gives_what_is_left_and_fails_as_chosen(rt: HostRuntime) -> Result<(), AllocError> {
-    let mut source = source(rt.alloc(), b"channel 1", 4, [2, 6])?;
-    all_right(&rt, first_mistaken(&mut source, TAKES));
-    Ok(())
+fn a_source_gives_what_is_left_and_fails_as_chosen(rt: HostRuntime) {
+    none_wrong(&rt, first_of_line(rt.alloc(), TAKES));
 }
 
-/// A call of a sink, and what it has got after it.
+/// A call of a sink, and its answer.
 #[derive(Clone, Copy)]
 enum Call {
-    Put(&'static [u8], Put, &'static [u8]),
-    WriteAll(&'static [u8], Result<(), WriteFault>, &'static [u8]),
+    Put(&'static [u8], Put),
+    WriteAll(&'static [u8], Result<(), WriteFault>),
 }
 
-// Whether the call is answered so.
-fn is_answered(sink: &mut MemSink, call: Call) -> bool {
-    match call {
-        Call::Put(bytes, put, got) => {
-            !bytes.is_empty() && sink.put(bytes) == put && sink.bytes() == got
-        }
-        Call::WriteAll(bytes, answer, got) => write_all(sink, bytes) == answer
-            && sink.bytes() == got,
+/// A call, and what the sink has got after it.
+type Writing = (Call, &'static [u8]);
+
+// A sink in memory.
+fn sink(alloc: Global, most: usize, fails: u64) -> Result<MemSink, AllocError> {
+    Ok(MemSink::new(alloc, most.max(1), [fails].to_vec(alloc)?))
+}
+
+fn puts(sink: &mut MemSink, bytes: &[u8], put: Put) -> bool {
+    !bytes.is_empty() && sink.put(bytes) == put
+}
+
+// Whether all is written.
+fn writes<O: Sink>(sink: &mut O, bytes: &[u8]) -> bool {
+    match write_all(sink, bytes) {
+        Ok(()) => true,
+        Err(WriteFault) => false,
     }
 }
 
-// The number of the first call that is answered otherwise by a sink that takes so many bytes at once and fails at this
-// call.
-fn first_miswritten(sink: &mut MemSink, calls: &[Call]) -> Option<usize> {
+fn is_answered(sink: &mut MemSink, call: Call) -> bool {
+    match call {
+        Call::Put(bytes, put) => puts(sink, bytes, put),
+        Call::WriteAll(bytes, answer) => writes(sink, bytes) == answer.is_ok(),
+    }
+}
+
+fn has_got(sink: &MemSink, bytes: &[u8]) -> bool {
+    sink.bytes() == bytes
+}
+
+// The number of the first call that is answered otherwise, or after which the sink has got something else.
+fn first_misanswered(sink: &mut MemSink, rows: &[Writing]) -> Option<usize> {
     let mut number: usize = 0;
-    for call in calls {
-        if !is_answered(sink, *call) {
+    for (call, got) in rows {
+        if !is_answered(sink, *call) || !has_got(sink, got) {
             return Some(number);
         }
         number = number.wrapping_add(1);
@@ -198,34 +213,36 @@ fn first_miswritten(sink: &mut MemSink, calls: &[Call]) -> Option<usize> {
     None
 }
 
-const WRITTEN: &[Call] = &[
-    Call::WriteAll(b"channel 1\n", Err(WriteFault), b"channel "),
-    Call::WriteAll(b"1\n", Ok(()), b"channel 1\n"),
-    Call::WriteAll(b"", Ok(()), b"channel 1\n"),
-];
-
-#[test]
-fn a_sink_that_fails_at_its_second_put_got_the_first_bytes(
-    rt: HostRuntime,
-) -> Result<(), AllocError> {
-    let mut sink = MemSink::new(rt.alloc(), 8, [2].to_vec(rt.alloc())?);
-    all_right(&rt, first_miswritten(&mut sink, WRITTEN));
-    Ok(())
+// The same by a sink that takes so many bytes at once and fails at this call.
+fn first_miswritten(alloc: Global, most: usize, fails: u64, rows: &[Writing]) -> Option<usize> {
+    match sink(alloc, most, fails) {
+        Ok(mut sink) => first_misanswered(&mut sink, rows),
+        Err(_) => Some(usize::MAX),
+    }
 }
 
-const PUTS: &[Call] = &[
-    Call::Put(b"ab", Put::Put(2), b"ab"),
-    Call::Put(b"cdefg", Put::Put(4), b"abcdef"),
-    Call::Put(b"g", Put::Failed, b"abcdef"),
-    Call::Put(b"g", Put::Put(1), b"abcdefg"),
-    Call::WriteAll(b"hijklmnop", Ok(()), b"abcdefghijklmnop"),
+const WRITTEN: &[Writing] = &[
+    (Call::WriteAll(b"channel 1\n", Err(WriteFault)), b"channel "),
+    (Call::WriteAll(b"1\n", Ok(())), b"channel 1\n"),
+    (Call::WriteAll(b"", Ok(())), b"channel 1\n"),
 ];
 
 #[test]
-fn a_sink_takes_so_many_and_fails_as_chosen(rt: HostRuntime) -> Result<(), AllocError> {
-    let mut sink = MemSink::new(rt.alloc(), 4, [3].to_vec(rt.alloc())?);
-    all_right(&rt, first_miswritten(&mut sink, PUTS));
-    Ok(())
+fn a_sink_that_fails_at_its_second_put_got_the_first_bytes(rt: HostRuntime) {
+    none_wrong(&rt, first_miswritten(rt.alloc(), 8, 2, WRITTEN));
+}
+
+const PUTS: &[Writing] = &[
+    (Call::Put(b"ab", Put::Put(2)), b"ab"),
+    (Call::Put(b"cdefg", Put::Put(4)), b"abcdef"),
+    (Call::Put(b"g", Put::Failed), b"abcdef"),
+    (Call::Put(b"g", Put::Put(1)), b"abcdefg"),
+    (Call::WriteAll(b"hijklmnop", Ok(())), b"abcdefghijklmnop"),
+];
+
+#[test]
+fn a_sink_takes_so_many_and_fails_as_chosen(rt: HostRuntime) {
+    none_wrong(&rt, first_miswritten(rt.alloc(), 4, 3, PUTS));
 }
 
 fn reads_surely(alloc: Global, bytes: &[u8]) -> bool {
@@ -237,33 +254,55 @@ fn reads_surely(alloc: Global, bytes: &[u8]) -> bool {
 
 fn writes_surely(alloc: Global, bytes: &[u8]) -> bool {
     let mut sink = SureSink::new(alloc);
-    write_all(&mut sink, bytes).is_ok() && sink.bytes() == bytes
+    writes(&mut sink, bytes) && sink.bytes() == bytes
+}
+
+// Whether more bytes than a chunk has are read and written as they are.
+fn is_passed_on(alloc: Global) -> bool {
+    match vec![in alloc; 7u8; 200_000] {
+        Ok(bytes) => reads_surely(alloc, &bytes) && writes_surely(alloc, &bytes),
+        Err(_) => false,
+    }
 }
 
 #[test]
-fn more_than_a_chunk_is_read_and_written(rt: HostRuntime) -> Result<(), AllocError> {
-    let bytes = vec![in rt.alloc(); 7u8; 200_000]?;
-    assert!(rt; reads_surely(rt.alloc(), &bytes));
-    assert!(rt; writes_surely(rt.alloc(), &bytes));
-    Ok(())
+fn more_than_a_chunk_is_read_and_written(rt: HostRuntime) {
+    right(&rt, is_passed_on(rt.alloc()));
 }
 
-// Whether these bytes are written to a writer of std as they are.
+// Whether these bytes are written to a writer of std.
+fn writes_to<W: Write + Drop>(writer: W, bytes: &[u8]) -> bool {
+    writes(&mut StdSink::new(writer), bytes)
+}
+
+// Whether they are written to a vector as they are.
 fn writes_to_std(alloc: Global, bytes: &[u8]) -> bool {
     let mut written = Vec::new(alloc);
-    write_all(&mut StdSink::new(&mut written), bytes).is_ok() && written.as_slice() == bytes
+    writes_to(&mut written, bytes) && written.as_slice() == bytes
+}
+
+// Whether these bytes are all that a reader of std gives, or this is why they are not.
+fn reads_from<R: Read + Drop>(
+    alloc: Global,
+    reader: R,
+    bytes: &[u8],
+    error: Option<ReadError>,
+) -> bool {
+    reads(alloc, &mut StdSource::new(reader), 100, bytes, error)
 }
 
 #[test]
 fn a_reader_and_a_writer_of_std_are_a_source_and_a_sink(rt: HostRuntime) {
     let line = b"channel 1\n".as_slice();
-    assert!(rt; reads(rt.alloc(), &mut StdSource::new(line), 100, line, None));
-    assert!(rt; writes_to_std(rt.alloc(), line));
+    right(&rt, reads_from(rt.alloc(), line, line, None));
+    right(&rt, writes_to_std(rt.alloc(), line));
 }
 
 #[test]
 fn a_reader_that_breaks_and_a_writer_that_is_full_are_faults(rt: HostRuntime) {
-    let mut source = StdSource::new(Breaking { reads: 0 });
-    assert!(rt; reads(rt.alloc(), &mut source, 100, b"", FAULT));
-    assert!(rt; write_all(&mut StdSink::new(Full), b"abc") == Err(WriteFault));
+    right(
+        &rt,
+        reads_from(rt.alloc(), Breaking { reads: 0 }, b"", FAULT),
+    );
+    right(&rt, !writes_to(Full, b"abc"));
 }

@@ -3,9 +3,37 @@
 use std::alloc::Global;
 use std::process::Abort;
 
-/// Ends the test where a row is wrong, and tells its number, counted from 0.
-pub fn all_right(rt: &impl Abort, first_wrong: Option<usize>) {
+/// A row of a table.
+pub trait Row {
+    /// Whether what is tested answers as the row says.
+    fn is_right(&self, alloc: Global) -> bool;
+}
+
+// The number of the first row that is wrong, counted from 0.
+fn first_wrong<R: Row>(alloc: Global, rows: &[R]) -> Option<usize> {
+    let mut number: usize = 0;
+    for row in rows {
+        if !row.is_right(alloc) {
+            return Some(number);
+        }
+        number = number.wrapping_add(1);
+    }
+    None
+}
+
+/// Ends the test where something is wrong, and tells its number.
+pub fn none_wrong(rt: &impl Abort, first_wrong: Option<usize>) {
     assert_eq!(rt; first_wrong, None);
+}
+
+/// Ends the test where a row is wrong, and tells its number.
+pub fn all_right<R: Row>(rt: &impl Abort, alloc: Global, rows: &[R]) {
+    none_wrong(rt, first_wrong(alloc, rows));
+}
+
+/// Ends the test where that is not so.
+pub fn right(rt: &impl Abort, is_right: bool) {
+    assert!(rt; is_right);
 }
 
 fn digit(c: u8) -> Option<u8> {

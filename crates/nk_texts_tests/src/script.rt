@@ -1,64 +1,60 @@
 // Texts that are no script, and the line at which each is refused; and what else a text may say there.
 
-use crate::rows::all_right;
+use crate::rows::{none_wrong, right};
 use nk_script::Cause::{self, EndsEarly, Malformed, Unexpected};
 use nk_script::{ScriptError, read_script};
-use std::alloc::Global;
+use std::alloc::{AllocError, Global};
 
 /// The line at which a text is refused, and why; `None` where it is a script.
 pub type Answer = Option<(u32, Cause)>;
 
+/// A part of a text, and how often it comes.
+pub type Part = (&'static str, usize);
+
 /// What follows the head of a text, and the answer to the whole.
 type Row = (&'static str, Answer);
 
-/// The answer to a text; `None` for want of memory, and where it is too long.
-pub fn answer(alloc: Global, text: &[u8]) -> Option<Answer> {
+// Whether that is the answer to a text; it is not for want of memory, nor where the text is too long.
+fn is_answer(alloc: Global, text: &[u8], expected: Answer) -> bool {
     if text.len() >= 0x8000_0000 {
-        return None;
+        return false;
     }
     match read_script(alloc, text) {
-        Ok(_) => Some(None),
-        Err(ScriptError::Line { number, cause }) => Some(Some((number, cause))),
-        Err(ScriptError::Memory) => None,
+        Ok(_) => expected.is_none(),
+        Err(ScriptError::Line { number, cause }) => expected == Some((number, cause)),
+        Err(ScriptError::Memory) => false,
     }
 }
 
-// Adds a line to a text, so often.
-fn repeat(text: &mut Vec<u8>, line: &[u8], times: usize) -> bool {
+// Adds a part to a text.
+fn add(text: &mut Vec<u8>, part: &str, times: usize) -> Result<(), AllocError> {
     for _ in 0..times {
-        if text.extend_from_slice(line).is_err() {
-            return false;
-        }
+        text.extend_from_slice(part.as_bytes())?;
     }
-    true
+    Ok(())
 }
 
-/// Adds to a text a line that comes so often, and what then follows.
-pub fn extend(text: &mut Vec<u8>, line: &str, times: usize, tail: &str) -> bool {
-    repeat(text, line.as_bytes(), times) && repeat(text, tail.as_bytes(), 1)
+fn add_all(text: &mut Vec<u8>, parts: &[Part]) -> Result<(), AllocError> {
+    for (part, times) in parts {
+        add(text, part, *times)?;
+    }
+    Ok(())
 }
 
-/// Whether the text is answered so that begins with this head, goes on with a line that comes so often, and ends with
-/// this tail.
-pub fn is_answered(
-    alloc: Global,
-    head: &str,
-    line: &str,
-    times: usize,
-    tail: &str,
-    expected: Answer,
-) -> bool {
+/// Whether the text of these parts is answered so.
+pub fn is_answered(alloc: Global, parts: &[Part], expected: Answer) -> bool {
     let mut text = Vec::new(alloc);
-    extend(&mut text, head, 1, "")
-        && extend(&mut text, line, times, tail)
-        && answer(alloc, &text) == Some(expected)
+    match add_all(&mut text, parts) {
+        Ok(()) => is_answer(alloc, &text, expected),
+        Err(_) => false,
+    }
 }
 
 // The number of the first row whose text, behind this head, is answered otherwise.
-fn first_wrong(alloc: Global, head: &str, rows: &[Row]) -> Option<usize> {
+fn first_wrong(alloc: Global, head: &'static str, rows: &[Row]) -> Option<usize> {
     let mut number: usize = 0;
     for (rest, expected) in rows {
-        if !is_answered(alloc, head, rest, 1, "", *expected) {
+        if !is_answered(alloc, &[(head, 1), (rest, 1)], *expected) {
             return Some(number);
         }
         number = number.wrapping_add(1);
@@ -106,7 +102,7 @@ const WORKED: &[Row] = &[
 
 #[test]
 fn texts_are_refused_at_the_first_line_that_cannot_stand(rt: HostRuntime) {
-    all_right(&rt, first_wrong(rt.alloc(), CHANNEL, WORKED));
+    none_wrong(&rt, first_wrong(rt.alloc(), CHANNEL, WORKED));
 }
 
 const HEADS: &[Row] = &[
@@ -136,8 +132,8 @@ const HEADS: &[Row] = &[
 
 #[test]
 fn the_text_of_no_bytes_ends_early(rt: HostRuntime) {
-    all_right(&rt, first_wrong(rt.alloc(), "", HEADS));
-    assert!(rt; answer(rt.alloc(), b"\xff") == Some(Some((1, Unexpected))));
+    none_wrong(&rt, first_wrong(rt.alloc(), "", HEADS));
+    right(&rt, is_answer(rt.alloc(), b"\xff", Some((1, Unexpected))));
 }
 
 const HOPS: &[Row] = &[
@@ -234,8 +230,8 @@ const RESPONSES: &[Row] = &[
 
 #[test]
 fn a_channel_has_hops_and_a_response_has_a_body(rt: HostRuntime) {
-    all_right(&rt, first_wrong(rt.alloc(), CHANNEL, HOPS));
-    all_right(&rt, first_wrong(rt.alloc(), RESPONSE, RESPONSES));
+    let first = first_wrong(rt.alloc(), CHANNEL, HOPS);
+    none_wrong(&rt, first.or(first_wrong(rt.alloc(), RESPONSE, RESPONSES)));
 }
 
 const OPTIONS: &[Row] = &[
@@ -337,8 +333,8 @@ const REACTIONS: &[Row] = &[
 
 #[test]
 fn options_reactions_and_controls_stand_in_their_order(rt: HostRuntime) {
-    all_right(&rt, first_wrong(rt.alloc(), FAILED, OPTIONS));
-    all_right(&rt, first_wrong(rt.alloc(), FAILED, REACTIONS));
+    let first = first_wrong(rt.alloc(), FAILED, OPTIONS);
+    none_wrong(&rt, first.or(first_wrong(rt.alloc(), FAILED, REACTIONS)));
 }
 
 const STEPS: &[Row] = &[
@@ -379,5 +375,5 @@ const STEPS: &[Row] = &[
 
 #[test]
 fn a_schedule_has_steps_of_channels(rt: HostRuntime) {
-    all_right(&rt, first_wrong(rt.alloc(), SCHEDULE, STEPS));
+    none_wrong(&rt, first_wrong(rt.alloc(), SCHEDULE, STEPS));
 }

@@ -1,12 +1,15 @@
 // Texts at their limits, and one step behind them.
 
-use crate::rows::all_right;
-use crate::script::{Answer, answer, extend, is_answered};
+use crate::rows::{Row, all_right};
+use crate::script::{Answer, Part, is_answered};
 use nk_script::Cause::{Limit, Malformed};
 use std::alloc::Global;
 
 /// What a text begins with, what then comes so often, what it ends with, and the answer to it.
-type Row = (&'static str, &'static str, usize, &'static str, Answer);
+type Repeated = (&'static str, &'static str, usize, &'static str, Answer);
+
+/// The parts of a text, and the answer to it.
+type Long = (&'static [Part], Answer);
 
 const HEAD: &str = "script 1\n";
 
@@ -24,19 +27,20 @@ const FILL: &str = "fill 00 131072\n";
 
 const PIECE: &str = "piece a\n";
 
-// The number of the first row whose text is answered otherwise.
-fn first_wrong(alloc: Global, rows: &[Row]) -> Option<usize> {
-    let mut number: usize = 0;
-    for (head, line, times, tail, expected) in rows {
-        if !is_answered(alloc, head, line, *times, tail, *expected) {
-            return Some(number);
-        }
-        number = number.wrapping_add(1);
+impl Row for Repeated {
+    fn is_right(&self, alloc: Global) -> bool {
+        let (head, line, times, tail, expected) = *self;
+        is_answered(alloc, &[(head, 1), (line, times), (tail, 1)], expected)
     }
-    None
 }
 
-const HOPS: &[Row] = &[
+impl Row for Long {
+    fn is_right(&self, alloc: Global) -> bool {
+        is_answered(alloc, self.0, self.1)
+    }
+}
+
+const HOPS: &[Repeated] = &[
     (CHANNEL, REDIRECT, 32, "", Some((34, Limit))),
     (
         CHANNEL,
@@ -51,10 +55,10 @@ const HOPS: &[Row] = &[
 
 #[test]
 fn a_redirect_is_no_last_hop_that_a_channel_may_have(rt: HostRuntime) {
-    all_right(&rt, first_wrong(rt.alloc(), HOPS));
+    all_right(&rt, rt.alloc(), HOPS);
 }
 
-const LINES: &[Row] = &[
+const LINES_AND_WORDS: &[Repeated] = &[
     (HEAD, "channel\nhop fail 804b000d\n", 1024, "", None),
     (
         HEAD,
@@ -80,9 +84,6 @@ const LINES: &[Row] = &[
     (FAILED, "when 1 suspend\n", 65, "", Some((68, Limit))),
     (RESPONSE, PIECE, 65_536, "end ok", None),
     (RESPONSE, PIECE, 65_537, "", Some((65_540, Limit))),
-];
-
-const WORDS: &[Row] = &[
     (
         "script 1\nchannel\nhop response 200\npiece ",
         "a",
@@ -157,11 +158,10 @@ const WORDS: &[Row] = &[
 
 #[test]
 fn lines_and_words_have_limits(rt: HostRuntime) {
-    all_right(&rt, first_wrong(rt.alloc(), LINES));
-    all_right(&rt, first_wrong(rt.alloc(), WORDS));
+    all_right(&rt, rt.alloc(), LINES_AND_WORDS);
 }
 
-const LISTENERS: &[Row] = &[
+const LISTENERS: &[Repeated] = &[
     (
         RESPONSE,
         FILL,
@@ -195,43 +195,54 @@ const LISTENERS: &[Row] = &[
 
 #[test]
 fn listeners_have_limits(rt: HostRuntime) {
-    all_right(&rt, first_wrong(rt.alloc(), LISTENERS));
+    all_right(&rt, rt.alloc(), LISTENERS);
 }
+
+const BODY: &[Repeated] = &[(RESPONSE, FILL, 513, "", Some((516, Limit)))];
 
 #[test]
 fn a_body_has_a_limit(rt: HostRuntime) {
-    let is_right = is_answered(rt.alloc(), RESPONSE, FILL, 513, "", Some((516, Limit)));
-    assert!(rt; is_right);
+    all_right(&rt, rt.alloc(), BODY);
 }
 
-// Whether the bodies of two channels, each of half of what all may have, are refused at the next piece.
-fn are_bodies_limited(alloc: Global) -> bool {
-    let mut text = Vec::new(alloc);
-    extend(&mut text, RESPONSE, 1, "")
-        && extend(&mut text, FILL, 256, "end ok\nchannel\nhop response 200\n")
-        && extend(&mut text, FILL, 256, "piece a\nend ok")
-        && answer(alloc, &text) == Some(Some((519, Limit)))
-}
+const NEXT: &str = "end ok\nchannel\nhop response 200\n";
 
-// Whether the pieces of four channels, of 65,536 each, are refused at the next one.
-fn are_pieces_limited(alloc: Global) -> bool {
-    let mut text = Vec::new(alloc);
-    let next = "end ok\nchannel\nhop response 200\n";
-    extend(&mut text, RESPONSE, 1, "")
-        && extend(&mut text, PIECE, 65_536, next)
-        && extend(&mut text, PIECE, 65_536, next)
-        && extend(&mut text, PIECE, 65_536, next)
-        && extend(&mut text, PIECE, 65_536, next)
-        && extend(&mut text, PIECE, 1, "end ok")
-        && answer(alloc, &text) == Some(Some((262_160, Limit)))
-}
+// The bodies of two channels, each of half of what all may have, are refused at the next piece.
+const BODIES: &[Long] = &[(
+    &[
+        (RESPONSE, 1),
+        (FILL, 256),
+        (NEXT, 1),
+        (FILL, 256),
+        ("piece a\nend ok", 1),
+    ],
+    Some((519, Limit)),
+)];
 
 #[test]
 fn the_bodies_of_all_channels_have_a_limit(rt: HostRuntime) {
-    assert!(rt; are_bodies_limited(rt.alloc()));
+    all_right(&rt, rt.alloc(), BODIES);
 }
+
+// The pieces of four channels, of 65,536 each, are refused at the next one.
+const PIECES: &[Long] = &[(
+    &[
+        (RESPONSE, 1),
+        (PIECE, 65_536),
+        (NEXT, 1),
+        (PIECE, 65_536),
+        (NEXT, 1),
+        (PIECE, 65_536),
+        (NEXT, 1),
+        (PIECE, 65_536),
+        (NEXT, 1),
+        (PIECE, 1),
+        ("end ok", 1),
+    ],
+    Some((262_160, Limit)),
+)];
 
 #[test]
 fn the_pieces_of_all_channels_have_a_limit(rt: HostRuntime) {
-    assert!(rt; are_pieces_limited(rt.alloc()));
+    all_right(&rt, rt.alloc(), PIECES);
 }

@@ -1,9 +1,10 @@
 // Texts that are scripts, and what each of their lines says.
 
-use crate::rows::all_right;
-use nk_base::{Fields, Status, Target};
+use crate::rows::none_wrong;
+use nk_base::{Fields, Head, Status, Target};
 use nk_plan::{
-    Act, ChannelPlan, Control, Finish, Hop, ListenerKind, Reaction, StartLane, Step, Verdict,
+    Act, ChannelPlan, Control, Finish, Hop, ListenerKind, Pieces, Reaction, StartLane, Step,
+    Verdict,
 };
 use nk_script::{ScheduleItem, Script, read_script};
 use std::alloc::Global;
@@ -51,50 +52,86 @@ fn has_field(fields: &Fields, i: usize, header: Header) -> bool {
     field.name.as_slice() == header.0 && field.value.as_slice() == header.1
 }
 
+fn is_failure(status: Status, told: OfHop) -> bool {
+    match told {
+        OfHop::Fail(told) => status == told,
+        _ => false,
+    }
+}
+
+fn is_redirect(code: u16, verdict: Verdict, told: OfHop) -> bool {
+    match told {
+        OfHop::Redirect(told, allowed) => code == told && verdict == allowed,
+        _ => false,
+    }
+}
+
+fn is_body(pieces: &Pieces, told: OfHop) -> bool {
+    match told {
+        OfHop::Pieces(count) => pieces.len() == count,
+        OfHop::Piece(i, bytes) => i < pieces.len() && pieces.get(i).as_slice() == bytes,
+        _ => false,
+    }
+}
+
+fn is_head(head: &Head, told: OfHop) -> bool {
+    match told {
+        OfHop::Code(code) => head.code == code,
+        OfHop::Fields(count) => head.fields.len() == count,
+        OfHop::Field(i, header) => has_field(&head.fields, i, header),
+        _ => false,
+    }
+}
+
+fn is_end(finish: Finish, trailers: &Fields, told: OfHop) -> bool {
+    match told {
+        OfHop::Finish(told) => finish == told,
+        OfHop::Trailers(count) => trailers.len() == count,
+        OfHop::Trailer(i, header) => has_field(trailers, i, header),
+        _ => false,
+    }
+}
+
 // Whether the hop is so.
 fn is_hop(hop: &Hop, told: OfHop) -> bool {
     match hop {
-        Hop::Fail(status) => matches!(told, OfHop::Fail(s) if s == *status),
-        Hop::Redirect { code, verdict } => {
-            matches!(told, OfHop::Redirect(c, v) if c == *code && v == *verdict)
-        }
+        Hop::Fail(status) => is_failure(*status, told),
+        Hop::Redirect { code, verdict } => is_redirect(*code, *verdict, told),
         Hop::Response {
             head,
             pieces,
             finish,
             trailers,
-        } => match told {
-            OfHop::Fail(_) | OfHop::Redirect(_, _) => false,
-            OfHop::Code(code) => head.code == code,
-            OfHop::Fields(count) => head.fields.len() == count,
-            OfHop::Field(i, header) => has_field(&head.fields, i, header),
-            OfHop::Pieces(count) => pieces.len() == count,
-            OfHop::Piece(i, bytes) => i < pieces.len() && pieces.get(i).as_slice() == bytes,
-            OfHop::Finish(told) => *finish == told,
-            OfHop::Trailers(count) => trailers.len() == count,
-            OfHop::Trailer(i, header) => has_field(trailers, i, header),
-        },
+        } => is_head(head, told) || is_body(pieces, told) || is_end(*finish, trailers, told),
     }
+}
+
+fn has_hop(plan: &ChannelPlan, i: usize, told: OfHop) -> bool {
+    i < plan.hops.len() && is_hop(plan.hops.get(i), told)
+}
+
+fn has_reaction(plan: &ChannelPlan, i: usize, reaction: Reaction) -> bool {
+    i < plan.reactions.len() && *plan.reactions.get(i) == reaction
+}
+
+fn has_control(plan: &ChannelPlan, i: usize, control: Control) -> bool {
+    i < plan.controls.len() && *plan.controls.get(i) == control
 }
 
 // Whether the plan is so.
 fn is_plan(plan: &ChannelPlan, told: Told) -> bool {
     match told {
         Told::Hops(count) => plan.hops.len() == count,
-        Told::Hop(i, told) => i < plan.hops.len() && is_hop(plan.hops.get(i), told),
+        Told::Hop(i, told) => has_hop(plan, i, told),
         Told::Listener(kind) => plan.listener == kind,
         Told::Retargetable(retargetable) => plan.retargetable == retargetable,
         Told::Window(window) => plan.window == window,
         Told::Start(lane) => plan.start == lane,
         Told::Closed(closed) => plan.closed == closed,
         Told::Reactions(count) => plan.reactions.len() == count,
-        Told::Reaction(i, reaction) => {
-            i < plan.reactions.len() && *plan.reactions.get(i) == reaction
-        }
+        Told::Reaction(i, reaction) => has_reaction(plan, i, reaction),
         Told::Controls(count) => plan.controls.len() == count,
-        Told::Control(i, after, act) => {
-            i < plan.controls.len() && *plan.controls.get(i) == Control { after, act }
-        }
+        Told::Control(i, after, act) => has_control(plan, i, Control { after, act }),
     }
 }
 
@@ -106,11 +143,11 @@ fn read(alloc: Global, text: &str) -> Option<Script> {
     read_script(alloc, text.as_bytes()).ok()
 }
 
-// The number of the first row that is not so of this channel, counted from 0.
-fn first_other(script: &Script, channel: usize, rows: &[Told]) -> Option<usize> {
+// The number of the first row that is not so of this plan, counted from 0.
+fn first_other(plan: &ChannelPlan, rows: &[Told]) -> Option<usize> {
     let mut number: usize = 0;
     for told in rows {
-        if channel >= script.plans.len() || !is_plan(script.plans.get(channel), *told) {
+        if !is_plan(plan, *told) {
             return Some(number);
         }
         number = number.wrapping_add(1);
@@ -118,46 +155,67 @@ fn first_other(script: &Script, channel: usize, rows: &[Told]) -> Option<usize> 
     None
 }
 
-// The number of the first step that the schedule has otherwise; where it has more, how many these are.
+// The same of this channel's plan.
+fn first_other_of(script: &Script, channel: usize, rows: &[Told]) -> Option<usize> {
+    if channel < script.plans.len() {
+        first_other(script.plans.get(channel), rows)
+    } else {
+        Some(0)
+    }
+}
+
+// The same of the channels' plans, one behind the other.
+fn first_other_plan(script: &Script, plans: &[&[Told]]) -> Option<usize> {
+    let mut number: usize = 0;
+    for rows in plans {
+        let other = first_other_of(script, number, rows);
+        if other.is_some() {
+            return other;
+        }
+        number = number.wrapping_add(1);
+    }
+    None
+}
+
+fn is_item(script: &Script, i: usize, item: ScheduleItem) -> bool {
+    i < script.schedule.len() && *script.schedule.get(i) == item
+}
+
+// The number of the first step that the schedule has otherwise, or that of all where it has more of them.
 fn first_other_step(script: &Script, steps: &[(u32, Step)]) -> Option<usize> {
     let mut number: usize = 0;
-    for (channel, step) in steps {
-        let item = ScheduleItem {
-            channel: *channel,
-            step: *step,
-        };
-        if number >= script.schedule.len() || *script.schedule.get(number) != item {
+    for &(channel, step) in steps {
+        if !is_item(script, number, ScheduleItem { channel, step }) {
             return Some(number);
         }
         number = number.wrapping_add(1);
     }
-    if script.schedule.len() > number {
-        Some(number)
-    } else {
+    if script.schedule.len() == number {
         None
+    } else {
+        Some(number)
+    }
+}
+
+// The number of the first row that is not so of a script that has a plan for each of these, or of its schedule.
+fn first_of_script(script: &Script, plans: &[&[Told]], steps: &[(u32, Step)]) -> Option<usize> {
+    if script.plans.len() == plans.len() {
+        first_other_plan(script, plans).or(first_other_step(script, steps))
+    } else {
+        Some(0)
     }
 }
 
 // The same of a text.
-fn first_wrong(alloc: Global, text: &str, channel: usize, rows: &[Told]) -> Option<usize> {
+fn first_wrong(
+    alloc: Global,
+    text: &str,
+    plans: &[&[Told]],
+    steps: &[(u32, Step)],
+) -> Option<usize> {
     match read(alloc, text) {
-        Some(script) => first_other(&script, channel, rows),
+        Some(script) => first_of_script(&script, plans, steps),
         None => Some(0),
-    }
-}
-
-fn first_wrong_step(alloc: Global, text: &str, steps: &[(u32, Step)]) -> Option<usize> {
-    match read(alloc, text) {
-        Some(script) => first_other_step(&script, steps),
-        None => Some(0),
-    }
-}
-
-// How many channels the script of a text has.
-fn channels(alloc: Global, text: &str) -> usize {
-    match read(alloc, text) {
-        Some(script) => script.plans.len(),
-        None => 0,
     }
 }
 
@@ -227,10 +285,8 @@ const FULL_STEPS: &[(u32, Step)] = &[(2, Step::Begin(Target::Worker(16))), (1, S
 
 #[test]
 fn each_line_says_its_part_of_the_script(rt: HostRuntime) {
-    assert!(rt; channels(rt.alloc(), FULL) == 2);
-    all_right(&rt, first_wrong(rt.alloc(), FULL, 0, FIRST));
-    all_right(&rt, first_wrong(rt.alloc(), FULL, 1, SECOND));
-    all_right(&rt, first_wrong_step(rt.alloc(), FULL, FULL_STEPS));
+    let plans = [FIRST, SECOND];
+    none_wrong(&rt, first_wrong(rt.alloc(), FULL, &plans, FULL_STEPS));
 }
 
 const MORE: &str = "script 1\nchannel\nhop redirect 399 allow\nhop fail 804b000d\n\
@@ -301,7 +357,6 @@ const MORE_STEPS: &[(u32, Step)] = &[
 
 #[test]
 fn each_call_and_step_is_the_one_of_its_line(rt: HostRuntime) {
-    all_right(&rt, first_wrong(rt.alloc(), MORE, 0, CALLS));
-    all_right(&rt, first_wrong(rt.alloc(), MORE, 1, CLOSED));
-    all_right(&rt, first_wrong_step(rt.alloc(), MORE, MORE_STEPS));
+    let plans = [CALLS, CLOSED];
+    none_wrong(&rt, first_wrong(rt.alloc(), MORE, &plans, MORE_STEPS));
 }

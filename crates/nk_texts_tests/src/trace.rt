@@ -1,5 +1,8 @@
 // The printed text: reports of what listeners saw, readers were given, and both sides of a channel did.
 
+ghost use Rattle.std.specs.Prelude.{All, IsTrue, ◌≢◌};
+
+use crate::rows::{Row, all_right};
 use crate::sample::{Headers, NO_HEADERS, Sample, TRAILER, Text, fields, message, piece};
 use nk_base::{ByteList, Entry, Memory, RetargetError, Status, Target, UpMsg};
 use nk_plan::{
@@ -63,6 +66,9 @@ enum Left {
 
 /// How a channel ended, and what is left of it.
 type Channel = (Ending, &'static [Left]);
+
+/// Channels, whether their journals are printed, and the report.
+type Report = (&'static [Channel], bool, &'static str);
 
 /// The entry of a child's journal for what it did.
 pub fn child_entry(alloc: Global, did: &Did) -> Result<ChildEntry, Memory> {
@@ -180,40 +186,47 @@ fn channel_end(alloc: Global, ending: Ending, rows: &[Left]) -> Result<ChannelEn
     Ok(end)
 }
 
-// Adds what is left of a channel, if there is one.
-fn push(alloc: Global, ends: &mut Ends, channel: Option<Channel>) -> Result<(), Memory> {
-    match channel {
-        None => Ok(()),
-        Some((ending, rows)) => ends.push(channel_end(alloc, ending, rows)?),
+// Adds what is left of these channels.
+fn push_all(alloc: Global, ends: &mut Ends, channels: &[Channel]) -> Result<(), Memory> {
+    for (ending, rows) in channels {
+        ends.push(channel_end(alloc, *ending, rows)?)?;
     }
+    Ok(())
 }
 
-fn is_report(alloc: Global, ends: &Ends, log: bool, text: &str) -> bool {
-    if !ends
-        .as_slice()
+// Whether these channels have ended.
+fn are_over(ends: &Ends) -> bool
+    ensures { IsTrue result → All (λ end. end.ending ≢ Ending.Going) ends.now }
+{
+    ends.as_slice()
         .iter()
         .all(|end| end.ending != Ending::Going)
-    {
-        return false;
-    }
-    match report(alloc, ends, log) {
+}
+
+fn is_text(report: Result<Vec<u8>, Memory>, text: &str) -> bool {
+    match report {
         Ok(bytes) => bytes.as_slice() == text.as_bytes(),
         Err(Memory) => false,
     }
 }
 
-// Whether the channel is reported so, and a second one behind it, where there is one.
-fn is_reported(
-    alloc: Global,
-    first: Channel,
-    second: Option<Channel>,
-    log: bool,
-    text: &str,
-) -> bool {
+fn is_report(alloc: Global, ends: &Ends, log: bool, text: &str) -> bool {
+    are_over(ends) && is_text(report(alloc, ends, log), text)
+}
+
+// Whether these channels are reported so.
+fn is_reported(alloc: Global, channels: &[Channel], log: bool, text: &str) -> bool {
     let mut ends = Ends::new(alloc);
-    push(alloc, &mut ends, Some(first)).is_ok()
-        && push(alloc, &mut ends, second).is_ok()
-        && is_report(alloc, &ends, log, text)
+    match push_all(alloc, &mut ends, channels) {
+        Ok(()) => is_report(alloc, &ends, log, text),
+        Err(Memory) => false,
+    }
+}
+
+impl Row for Report {
+    fn is_right(&self, alloc: Global) -> bool {
+        is_reported(alloc, self.0, self.1, self.2)
+    }
 }
 
 const OK: Status = Status::OK;
@@ -230,11 +243,15 @@ const RESPONSE: &[Left] = &[
     Left::Saw(Seen::Stop(OK, NO_HEADERS)),
 ];
 
+const RESPONSE_REPORT: &[Report] = &[(
+    &[(Ending::Stopped, RESPONSE)],
+    false,
+    "channel 1\nstart 200 00000000\ndata 0 68656c6c6f\nstop 00000000\nend stopped\n",
+)];
+
 #[test]
 fn prints_a_response(rt: HostRuntime) {
-    let text = "channel 1\nstart 200 00000000\ndata 0 68656c6c6f\nstop 00000000\nend stopped\n";
-    let channel = (Ending::Stopped, RESPONSE);
-    assert!(rt; is_reported(rt.alloc(), channel, None, false, text));
+    all_right(&rt, rt.alloc(), RESPONSE_REPORT);
 }
 
 const FAILED: &[Left] = &[
@@ -244,12 +261,16 @@ const FAILED: &[Left] = &[
 
 const STARTED: &[Left] = &[Left::Saw(Seen::Start(200, OK))];
 
+const STARTED_REPORT: &[Report] = &[(
+    &[(Ending::Stopped, FAILED), (Ending::Suspended, STARTED)],
+    false,
+    "channel 1\nstart 000 804b000d\nstop 804b000d\nend stopped\n\
+        channel 2\nstart 200 00000000\nend suspended\n",
+)];
+
 #[test]
 fn numbers_channels_and_pads_codes(rt: HostRuntime) {
-    let text = "channel 1\nstart 000 804b000d\nstop 804b000d\nend stopped\n\
-        channel 2\nstart 200 00000000\nend suspended\n";
-    let (failed, started) = ((Ending::Stopped, FAILED), (Ending::Suspended, STARTED));
-    assert!(rt; is_reported(rt.alloc(), failed, Some(started), false, text));
+    all_right(&rt, rt.alloc(), STARTED_REPORT);
 }
 
 const TRAILED: &[Left] = &[
@@ -258,12 +279,15 @@ const TRAILED: &[Left] = &[
     Left::Saw(Seen::Stop(OK, TRAILER)),
 ];
 
+const TRAILED_REPORT: &[Report] = &[(
+    &[(Ending::Stopped, TRAILED)],
+    false,
+    "channel 1\nstart 200 00000000\ndata 0 6162\ntrailer x-sum 17\nstop 00000000\nend stopped\n",
+)];
+
 #[test]
 fn prints_trailers_before_their_stop(rt: HostRuntime) {
-    let text =
-        "channel 1\nstart 200 00000000\ndata 0 6162\ntrailer x-sum 17\nstop 00000000\nend stopped\n";
-    let channel = (Ending::Stopped, TRAILED);
-    assert!(rt; is_reported(rt.alloc(), channel, None, false, text));
+    all_right(&rt, rt.alloc(), TRAILED_REPORT);
 }
 
 const READ: &[Left] = &[
@@ -272,24 +296,32 @@ const READ: &[Left] = &[
     Left::Reader(b"\0\xff", Some(FAILURE)),
 ];
 
-#[test]
-fn prints_what_readers_were_given(rt: HostRuntime) {
-    let text = "channel 1\n\
+const READ_REPORT: &[Report] = &[(
+    &[(Ending::Stopped, READ)],
+    false,
+    "channel 1\n\
         reader 1 20 6161616161616161616161616161616161616161 00000000\n\
         reader 2 20 6161616161616161616161616161616161616161 00000000\n\
         reader 3 2 00ff 804b000d\n\
-        end stopped\n";
-    let channel = (Ending::Stopped, READ);
-    assert!(rt; is_reported(rt.alloc(), channel, None, false, text));
+        end stopped\n",
+)];
+
+#[test]
+fn prints_what_readers_were_given(rt: HostRuntime) {
+    all_right(&rt, rt.alloc(), READ_REPORT);
 }
 
 const IDLE: &[Left] = &[Left::Reader(b"", None), Left::Reader(b"", None)];
 
+const IDLE_REPORT: &[Report] = &[(
+    &[(Ending::Unopened, IDLE)],
+    false,
+    "channel 1\nreader 1 0 - open\nreader 2 0 - open\nend unopened\n",
+)];
+
 #[test]
 fn prints_idle_readers_of_a_closed_channel(rt: HostRuntime) {
-    let text = "channel 1\nreader 1 0 - open\nreader 2 0 - open\nend unopened\n";
-    let channel = (Ending::Unopened, IDLE);
-    assert!(rt; is_reported(rt.alloc(), channel, None, false, text));
+    all_right(&rt, rt.alloc(), IDLE_REPORT);
 }
 
 const HEAD: &[Left] = &[
@@ -313,15 +345,19 @@ const HEAD: &[Left] = &[
     Left::Child(Did::Ended(MAIN)),
 ];
 
-#[test]
-fn prints_the_journals_of_a_head(rt: HostRuntime) {
-    let text = "channel 1\nstart 204 00000000\nstop 00000000\nend stopped\n\
+const HEAD_REPORT: &[Report] = &[(
+    &[(Ending::Stopped, HEAD)],
+    true,
+    "channel 1\nstart 204 00000000\nstop 00000000\nend stopped\n\
         p open\np send start 0 00000000 204 0\np send sent 0\np send stop 0 00000000\np deleting\n\
         forwarded 2\n\
         c open\nc main start 0 00000000 204 0\nc run main start 204 00000000\nc back sent 0\nc release 0\n\
-        c finish main\nc back stop 0 00000000\nc run main stop 00000000\nc finish main\nc ended main\n";
-    let channel = (Ending::Stopped, HEAD);
-    assert!(rt; is_reported(rt.alloc(), channel, None, true, text));
+        c finish main\nc back stop 0 00000000\nc run main stop 00000000\nc finish main\nc ended main\n",
+)];
+
+#[test]
+fn prints_the_journals_of_a_head(rt: HostRuntime) {
+    all_right(&rt, rt.alloc(), HEAD_REPORT);
 }
 
 const RETARGETED: &[Left] = &[
@@ -346,13 +382,17 @@ const RETARGETED: &[Left] = &[
     Left::Child(Did::Ended(MAIN)),
 ];
 
-#[test]
-fn prints_the_journal_of_a_retargeted_child(rt: HostRuntime) {
-    let text = "channel 1\nend stopped\nforwarded 0\n\
+const RETARGETED_REPORT: &[Report] = &[(
+    &[(Ending::Stopped, RETARGETED)],
+    true,
+    "channel 1\nend stopped\nforwarded 0\n\
         c open\nc main start 0 00000000 200 0\nc run main start 200 00000000\nc back sent 0\n\
         c back bytes 0 00000000 0 2\nc release 1\nc finish main\nc retarget w1\nc over main w1\nc complete w1\n\
         c run w1 bytes 0 2\nc refused already w1\nc back stop 0 00000000\nc finish w1\nc over w1 main\n\
-        c complete main\nc run main stop 00000000\nc finish main\nc ended main\n";
-    let channel = (Ending::Stopped, RETARGETED);
-    assert!(rt; is_reported(rt.alloc(), channel, None, true, text));
+        c complete main\nc run main stop 00000000\nc finish main\nc ended main\n",
+)];
+
+#[test]
+fn prints_the_journal_of_a_retargeted_child(rt: HostRuntime) {
+    all_right(&rt, rt.alloc(), RETARGETED_REPORT);
 }

@@ -1,6 +1,6 @@
 // The lines of which reports are made, and what else is printed by itself.
 
-use crate::rows::all_right;
+use crate::rows::{Row, all_right};
 use crate::sample::{Headers, NO_HEADERS, Sample, TRAILER, message};
 use crate::trace::{Did, Seen, child_entry, entry, parent_entry};
 use nk_base::{Memory, RetargetError, Status, Target, UpMsg};
@@ -25,6 +25,9 @@ enum Print {
     Parent(Sample),
     Child(Did),
 }
+
+/// What is printed, and the text.
+type Printed = (Print, &'static str);
 
 fn print_message(alloc: Global, printer: &mut Printer, sample: &Sample) -> Result<(), Memory> {
     match message(alloc, sample)? {
@@ -91,16 +94,10 @@ fn is_printed(alloc: Global, row: &Print, text: &str) -> bool {
     }
 }
 
-// The number of the first row that is printed otherwise.
-fn first_wrong(alloc: Global, rows: &[(Print, &str)]) -> Option<usize> {
-    let mut number: usize = 0;
-    for (row, text) in rows {
-        if !is_printed(alloc, row, text) {
-            return Some(number);
-        }
-        number = number.wrapping_add(1);
+impl Row for Printed {
+    fn is_right(&self, alloc: Global) -> bool {
+        is_printed(alloc, &self.0, self.1)
     }
-    None
 }
 
 const OK: Status = Status::OK;
@@ -113,7 +110,7 @@ const MAIN: Target = Target::Main;
 
 const NINE: Target = Target::Worker(9);
 
-const LINES: &[(Print, &str)] = &[
+const LINES: &[Printed] = &[
     (Print::Word(""), ""),
     (Print::Word("usage"), "usage"),
     (Print::Decimal(0), "0"),
@@ -147,10 +144,10 @@ const LINES: &[(Print, &str)] = &[
 
 #[test]
 fn prints_words_numbers_and_lines(rt: HostRuntime) {
-    all_right(&rt, first_wrong(rt.alloc(), LINES));
+    all_right(&rt, rt.alloc(), LINES);
 }
 
-const BROUGHT_ABOUT: &[(Print, &str)] = &[
+const BROUGHT_ABOUT: &[Printed] = &[
     (Print::Child(Did::Suspend), "c suspend\n"),
     (Print::Child(Did::Resume), "c resume\n"),
     (Print::Child(Did::Cancel(ABORTED)), "c cancel 804b0002\n"),
@@ -225,12 +222,12 @@ const BROUGHT_ABOUT: &[(Print, &str)] = &[
 
 #[test]
 fn prints_what_the_page_and_failures_bring_about(rt: HostRuntime) {
-    all_right(&rt, first_wrong(rt.alloc(), BROUGHT_ABOUT));
+    all_right(&rt, rt.alloc(), BROUGHT_ABOUT);
 }
 
 const MANY: Headers = Headers(64, (b"x", 1), (b"y", 1));
 
-const MESSAGES: &[(Print, &str)] = &[
+const MESSAGES: &[Printed] = &[
     (
         Print::Parent(Sample::FailedOpen(0, RESET)),
         "p send failed 0 804b0014\n",
@@ -292,5 +289,5 @@ const MESSAGES: &[(Print, &str)] = &[
 
 #[test]
 fn prints_the_other_messages(rt: HostRuntime) {
-    all_right(&rt, first_wrong(rt.alloc(), MESSAGES));
+    all_right(&rt, rt.alloc(), MESSAGES);
 }

@@ -3,7 +3,7 @@
 ghost use Rattle.std.specs.Prelude.{IsTrue};
 ghost use Rattle.nk_base.specs.Ranges.{IsMainInRange, IsBackInRange, IsUpInRange};
 
-use crate::rows::{all_right, bytes};
+use crate::rows::{Row, all_right, bytes};
 use crate::sample::{Headers, NO_HEADERS, ONE_HEADER, Sample, TRAILER, message};
 use nk_base::{BackMsg, MainMsg, Memory, Status, UpMsg};
 use nk_wire::{
@@ -20,6 +20,9 @@ pub enum Lane {
     Up,
     Any,
 }
+
+/// A message, and the bytes of its frame.
+type Spelled = (Sample, &'static str);
 
 // The most bytes of a frame's rest.
 const MOST: usize = 528_653;
@@ -175,16 +178,10 @@ fn is_spelled(alloc: Global, sample: &Sample, pairs: &str) -> bool {
     }
 }
 
-// The number of the first row whose message is spelled or read otherwise.
-fn first_wrong(alloc: Global, rows: &[(Sample, &str)]) -> Option<usize> {
-    let mut number: usize = 0;
-    for (sample, pairs) in rows {
-        if !is_spelled(alloc, sample, pairs) {
-            return Some(number);
-        }
-        number = number.wrapping_add(1);
+impl Row for Spelled {
+    fn is_right(&self, alloc: Global) -> bool {
+        is_spelled(alloc, &self.0, self.1)
     }
-    None
 }
 
 const OK: Status = Status::OK;
@@ -193,7 +190,7 @@ const ABORTED: Status = Status::BINDING_ABORTED;
 
 const TWO: Headers = Headers(2, (b"x", 1), (b"y z", 1));
 
-const SPELLED: &[(Sample, &str)] = &[
+const SPELLED: &[Spelled] = &[
     (
         Sample::Start(3, OK, 200, ONE_HEADER),
         "13000000 01 03000000 00000000 c800 0100 0100 78 0100 79",
@@ -280,5 +277,5 @@ const SPELLED: &[(Sample, &str)] = &[
 
 #[test]
 fn each_message_has_its_spelling(rt: HostRuntime) {
-    all_right(&rt, first_wrong(rt.alloc(), SPELLED));
+    all_right(&rt, rt.alloc(), SPELLED);
 }

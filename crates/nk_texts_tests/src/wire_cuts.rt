@@ -1,6 +1,6 @@
 // Frames that are cut after each of their bytes, and frames as large as they may be.
 
-use crate::rows::all_right;
+use crate::rows::{Row, all_right};
 use crate::sample::{Headers, NO_HEADERS, ONE_HEADER, Sample};
 use crate::wire::{Lane, frame, lane_of, refusal};
 use crate::wire_frames::is_told;
@@ -9,19 +9,29 @@ use nk_wire::{DecodeError, FrameCause};
 use std::alloc::Global;
 
 /// A message, and the places of its frame's rest at which its fields end.
-type Row = (Sample, &'static [u32]);
+type Cut = (Sample, &'static [u32]);
 
-// Whether a frame's first bytes are told as a frame that is cut, however many they are.
-fn is_cut_anywhere(alloc: Global, frame: &[u8]) -> Option<bool> {
-    let size = u32::try_from(frame.len()).ok()?;
+/// A message, and the size of its frame.
+type Size = (Sample, usize);
+
+// Whether so many of a frame's first bytes are told as a frame that is cut.
+fn is_cut_at(alloc: Global, frame: &[u8], have: u32, size: u32) -> bool {
+    let need = if have < 4 { 4 } else { size };
+    let fault = Some((0, FrameCause::Cut { have, need }));
+    match frame.get(..have as usize) {
+        Some(part) => is_told(alloc, part, 7, 0, fault),
+        None => false,
+    }
+}
+
+// Whether a frame of this size is cut, however many of its first bytes there are, and told whole.
+fn is_cut_anywhere(alloc: Global, frame: &[u8], size: u32) -> bool {
     for have in 1..size {
-        let need = if have < 4 { 4 } else { size };
-        let fault = Some((0, FrameCause::Cut { have, need }));
-        if !is_told(alloc, frame.get(..have as usize)?, 7, 0, fault) {
-            return Some(false);
+        if !is_cut_at(alloc, frame, have, size) {
+            return false;
         }
     }
-    Some(is_told(alloc, frame, 7, 1, None))
+    is_told(alloc, frame, 7, 1, None)
 }
 
 // What a rest of so many bytes is short of: the first field that ends behind them.
@@ -34,43 +44,47 @@ fn short(have: u32, ends: &[u32]) -> Option<DecodeError> {
     None
 }
 
-// Whether a rest's first bytes are short of a field, however many they are, and all of them of none.
-fn is_short_anywhere(alloc: Global, lane: Lane, rest: &[u8], ends: &[u32]) -> Option<bool> {
-    let size = u32::try_from(rest.len()).ok()?;
-    for have in 0..=size {
-        let part = rest.get(..have as usize)?;
-        let error = short(have, ends);
-        if refusal(alloc, lane, part) != error || refusal(alloc, Lane::Any, part) != error {
-            return Some(false);
-        }
+// Whether so many of a rest's first bytes are short of this field, or of none.
+fn is_short_at(alloc: Global, lane: Lane, rest: &[u8], have: u32, ends: &[u32]) -> bool {
+    let error = short(have, ends);
+    match rest.get(..have as usize) {
+        Some(part) => refusal(alloc, lane, part) == error
+            && refusal(alloc, Lane::Any, part) == error,
+        None => false,
     }
-    Some(true)
 }
 
-fn is_right(alloc: Global, lane: Lane, frame: &[u8], ends: &[u32]) -> Option<bool> {
-    let is_cut = is_cut_anywhere(alloc, frame)?;
-    let is_short = is_short_anywhere(alloc, lane, frame.get(4..)?, ends)?;
-    Some(is_cut && is_short && is_told(alloc, &[], 7, 0, None))
+// Whether a rest of this size is short of a field, however many of its first bytes there are, and whole of none.
+fn is_short_anywhere(alloc: Global, lane: Lane, rest: &[u8], size: u32, ends: &[u32]) -> bool {
+    for have in 0..=size {
+        if !is_short_at(alloc, lane, rest, have, ends) {
+            return false;
+        }
+    }
+    true
+}
+
+fn is_right(alloc: Global, lane: Lane, frame: &[u8], ends: &[u32]) -> bool {
+    match (u32::try_from(frame.len()), frame.get(4..)) {
+        (Ok(size), Some(rest)) => is_cut_anywhere(alloc, frame, size)
+            && is_short_anywhere(alloc, lane, rest, size.saturating_sub(4), ends)
+            && is_told(alloc, &[], 7, 0, None),
+        _ => false,
+    }
 }
 
 // Whether the sample's frame is cut, and its rest short, wherever it is cut.
 fn is_short_wherever_cut(alloc: Global, sample: &Sample, ends: &[u32]) -> bool {
     match frame(alloc, sample) {
-        Ok(frame) => is_right(alloc, lane_of(sample), frame.as_slice(), ends) == Some(true),
+        Ok(frame) => is_right(alloc, lane_of(sample), frame.as_slice(), ends),
         Err(Memory) => false,
     }
 }
 
-// The number of the first row whose frame is not.
-fn first_wrong(alloc: Global, rows: &[Row]) -> Option<usize> {
-    let mut number: usize = 0;
-    for (sample, ends) in rows {
-        if !is_short_wherever_cut(alloc, sample, ends) {
-            return Some(number);
-        }
-        number = number.wrapping_add(1);
+impl Row for Cut {
+    fn is_right(&self, alloc: Global) -> bool {
+        is_short_wherever_cut(alloc, &self.0, self.1)
     }
-    None
 }
 
 fn is_told_whole(alloc: Global, frame: &[u8], size: usize) -> bool {
@@ -85,16 +99,10 @@ fn has_size(alloc: Global, sample: &Sample, size: usize) -> bool {
     }
 }
 
-// The number of the first row whose frame has another size.
-fn first_of_other_size(alloc: Global, rows: &[(Sample, usize)]) -> Option<usize> {
-    let mut number: usize = 0;
-    for (sample, size) in rows {
-        if !has_size(alloc, sample, *size) {
-            return Some(number);
-        }
-        number = number.wrapping_add(1);
+impl Row for Size {
+    fn is_right(&self, alloc: Global) -> bool {
+        has_size(alloc, &self.0, self.1)
     }
-    None
 }
 
 const OK: Status = Status::OK;
@@ -103,7 +111,7 @@ const RESET: Status = Status::NET_RESET;
 
 const TWO: Headers = Headers(2, (b"x", 1), (b"y", 1));
 
-const MAIN: &[Row] = &[
+const MAIN: &[Cut] = &[
     (
         Sample::Start(3, OK, 200, ONE_HEADER),
         &[1, 5, 9, 11, 13, 15, 16, 18, 19],
@@ -120,10 +128,10 @@ const MAIN: &[Row] = &[
 
 #[test]
 fn each_frame_of_the_main_lane_is_short_wherever_it_is_cut(rt: HostRuntime) {
-    all_right(&rt, first_wrong(rt.alloc(), MAIN));
+    all_right(&rt, rt.alloc(), MAIN);
 }
 
-const BACK: &[Row] = &[
+const BACK: &[Cut] = &[
     (Sample::StartSent(3), &[1, 5]),
     (Sample::Bytes(3, OK, 7, (b"abc", 1)), &[1, 5, 9, 17, 21, 24]),
     (
@@ -143,10 +151,10 @@ const BACK: &[Row] = &[
 
 #[test]
 fn each_frame_of_the_background_lane_is_short_wherever_it_is_cut(rt: HostRuntime) {
-    all_right(&rt, first_wrong(rt.alloc(), BACK));
+    all_right(&rt, rt.alloc(), BACK);
 }
 
-const UP: &[Row] = &[
+const UP: &[Cut] = &[
     (Sample::Up(UpMsg::Open), &[1]),
     (Sample::Up(UpMsg::Suspend), &[1]),
     (Sample::Up(UpMsg::Resume), &[1]),
@@ -164,12 +172,12 @@ const UP: &[Row] = &[
 
 #[test]
 fn each_frame_of_the_up_lane_is_short_wherever_it_is_cut(rt: HostRuntime) {
-    all_right(&rt, first_wrong(rt.alloc(), UP));
+    all_right(&rt, rt.alloc(), UP);
 }
 
 const MOST: Headers = Headers(64, (b"x", 64), (b"y", 8192));
 
-const LARGEST: &[(Sample, usize)] = &[
+const LARGEST: &[Size] = &[
     (Sample::Start(31, OK, 999, MOST), 528_657),
     (Sample::Stop(31, OK, MOST), 528_656),
     (Sample::Bytes(31, OK, u64::MAX, (b"z", 131_072)), 131_097),
@@ -177,5 +185,5 @@ const LARGEST: &[(Sample, usize)] = &[
 
 #[test]
 fn the_largest_frames_are_told_whole(rt: HostRuntime) {
-    all_right(&rt, first_of_other_size(rt.alloc(), LARGEST));
+    all_right(&rt, rt.alloc(), LARGEST);
 }

@@ -1,6 +1,6 @@
 // Streams of frames, in whatever pieces they come.
 
-use crate::rows::{all_right, bytes};
+use crate::rows::{Row, all_right, bytes, none_wrong};
 use crate::sample::{NO_HEADERS, ONE_HEADER, Sample};
 use crate::wire::is_sample;
 use nk_base::{Status, UpMsg};
@@ -12,7 +12,7 @@ use std::alloc::Global;
 pub type Fault = Option<(u64, FrameCause)>;
 
 /// A stream's bytes, how many messages it gives, and what it ends with.
-type Row = (&'static str, usize, Fault);
+type Stream = (&'static str, usize, Fault);
 
 /// What becomes of a stream.
 #[derive(Clone, Copy)]
@@ -125,28 +125,19 @@ pub fn is_told(alloc: Global, bytes: &[u8], size: usize, number: usize, fault: F
 }
 
 // The same in pieces of 1, 7 and 100 bytes.
-fn is_told_anyhow(alloc: Global, row: &Row) -> bool {
-    let (pairs, number, fault) = *row;
-    match bytes(alloc, pairs) {
-        Some(bytes) => {
-            is_told(alloc, &bytes, 1, number, fault)
-                && is_told(alloc, &bytes, 7, number, fault)
-                && is_told(alloc, &bytes, 100, number, fault)
-        }
-        None => false,
-    }
+fn is_told_anyhow(alloc: Global, bytes: &[u8], number: usize, fault: Fault) -> bool {
+    is_told(alloc, bytes, 1, number, fault)
+        && is_told(alloc, bytes, 7, number, fault)
+        && is_told(alloc, bytes, 100, number, fault)
 }
 
-// The number of the first row whose bytes are told otherwise.
-fn first_mistold(alloc: Global, rows: &[Row]) -> Option<usize> {
-    let mut number: usize = 0;
-    for row in rows {
-        if !is_told_anyhow(alloc, row) {
-            return Some(number);
+impl Row for Stream {
+    fn is_right(&self, alloc: Global) -> bool {
+        match bytes(alloc, self.0) {
+            Some(bytes) => is_told_anyhow(alloc, &bytes, self.1, self.2),
+            None => false,
         }
-        number = number.wrapping_add(1);
     }
-    None
 }
 
 const CANCEL_AND_STOP: &str = "05000000 24 02004b80 09000000 13 00000000 00000000";
@@ -156,7 +147,7 @@ const HELLO_AND_VERIFY: &str = "1a000000 12 00000000 00000000 0000000000000000 0
 
 const TRAILERS: &str = "12000000 f2 13 00000000 00000000 0100 0100 78 0100 79";
 
-const WORKED: &[Row] = &[
+const WORKED: &[Stream] = &[
     ("", 0, None),
     (CANCEL_AND_STOP, 2, None),
     (HELLO_AND_VERIFY, 2, None),
@@ -165,10 +156,10 @@ const WORKED: &[Row] = &[
 
 #[test]
 fn worked_frames_are_told_in_any_pieces(rt: HostRuntime) {
-    all_right(&rt, first_mistold(rt.alloc(), WORKED));
+    all_right(&rt, rt.alloc(), WORKED);
 }
 
-const CUT: &[Row] = &[
+const CUT: &[Stream] = &[
     ("09000000 13 00", 0, Some((0, Cut { have: 6, need: 13 }))),
     ("12000000 f213", 0, Some((0, Cut { have: 6, need: 22 }))),
     ("00000000", 0, Some((0, Length(0)))),
@@ -203,10 +194,10 @@ const CUT: &[Row] = &[
 
 #[test]
 fn frames_that_are_cut_or_have_no_length(rt: HostRuntime) {
-    all_right(&rt, first_mistold(rt.alloc(), CUT));
+    all_right(&rt, rt.alloc(), CUT);
 }
 
-const NO_MESSAGE: &[Row] = &[
+const NO_MESSAGE: &[Stream] = &[
     (
         "0a000000 13 00000000 00000000 ff",
         0,
@@ -247,7 +238,7 @@ const NO_MESSAGE: &[Row] = &[
 
 #[test]
 fn frames_whose_rest_is_no_message(rt: HostRuntime) {
-    all_right(&rt, first_mistold(rt.alloc(), NO_MESSAGE));
+    all_right(&rt, rt.alloc(), NO_MESSAGE);
 }
 
 const ABORTED: Status = Status::BINDING_ABORTED;
@@ -277,7 +268,7 @@ const GIVEN: &[Call] = &[
 
 #[test]
 fn messages_are_those_of_their_frames(rt: HostRuntime) {
-    all_right(&rt, first_wrong(rt.alloc(), GIVEN));
+    none_wrong(&rt, first_wrong(rt.alloc(), GIVEN));
 }
 
 const LENGTH_STAYS: &[Call] = &[
@@ -305,6 +296,6 @@ const KIND_STAYS: &[Call] = &[
 
 #[test]
 fn an_error_stays_and_a_cut_does_not(rt: HostRuntime) {
-    all_right(&rt, first_wrong(rt.alloc(), LENGTH_STAYS));
-    all_right(&rt, first_wrong(rt.alloc(), KIND_STAYS));
+    let first = first_wrong(rt.alloc(), LENGTH_STAYS);
+    none_wrong(&rt, first.or(first_wrong(rt.alloc(), KIND_STAYS)));
 }

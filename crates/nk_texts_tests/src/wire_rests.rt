@@ -1,12 +1,12 @@
 // Rests of frames that are read or refused, by the decoder of each lane and by the one of all.
 
-use crate::rows::{all_right, bytes};
+use crate::rows::{Row, all_right, bytes};
 use crate::wire::{Lane, refusal};
 use nk_wire::DecodeError::{self, BadField, Kind, Long, Short};
 use std::alloc::Global;
 
 /// A rest, who reads it, and why it is refused; `None` where it is read.
-type Row = (Lane, &'static str, Option<DecodeError>);
+type Rest = (Lane, &'static str, Option<DecodeError>);
 
 // Whether the rest is answered so. What a lane's decoder answers to its own kinds, the one of all lanes answers too.
 fn is_answer(alloc: Global, lane: Lane, rest: &[u8], error: Option<DecodeError>) -> bool {
@@ -15,27 +15,16 @@ fn is_answer(alloc: Global, lane: Lane, rest: &[u8], error: Option<DecodeError>)
     refusal(alloc, lane, rest) == error && (by_all == error || !is_own)
 }
 
-fn is_answered(alloc: Global, row: &Row) -> bool {
-    let (lane, pairs, error) = *row;
-    match bytes(alloc, pairs) {
-        Some(rest) => is_answer(alloc, lane, &rest, error),
-        None => false,
-    }
-}
-
-// The number of the first row that is answered otherwise.
-fn first_wrong(alloc: Global, rows: &[Row]) -> Option<usize> {
-    let mut number: usize = 0;
-    for row in rows {
-        if !is_answered(alloc, row) {
-            return Some(number);
+impl Row for Rest {
+    fn is_right(&self, alloc: Global) -> bool {
+        match bytes(alloc, self.1) {
+            Some(rest) => is_answer(alloc, self.0, &rest, self.2),
+            None => false,
         }
-        number = number.wrapping_add(1);
     }
-    None
 }
 
-const KINDS: &[Row] = &[
+const KINDS: &[Rest] = &[
     (Lane::Main, "04 03000000", None),
     (Lane::Back, "11 03000000", None),
     (Lane::Up, "26 05000000", None),
@@ -79,10 +68,10 @@ const KINDS: &[Row] = &[
 
 #[test]
 fn each_lane_has_its_kinds(rt: HostRuntime) {
-    all_right(&rt, first_wrong(rt.alloc(), KINDS));
+    all_right(&rt, rt.alloc(), KINDS);
 }
 
-const RANGES: &[Row] = &[
+const RANGES: &[Rest] = &[
     // Hops are below 32.
     (Lane::Main, "04 20000000", Some(BadField(1))),
     (Lane::Main, "04 1f000000", None),
@@ -307,10 +296,10 @@ const RANGES: &[Row] = &[
 
 #[test]
 fn fields_are_in_their_ranges(rt: HostRuntime) {
-    all_right(&rt, first_wrong(rt.alloc(), RANGES));
+    all_right(&rt, rt.alloc(), RANGES);
 }
 
-const FAULTS: &[Row] = &[
+const FAULTS: &[Rest] = &[
     // Bytes behind the fields.
     (
         Lane::Main,
@@ -373,5 +362,5 @@ const FAULTS: &[Row] = &[
 
 #[test]
 fn the_first_fault_from_the_left_is_named(rt: HostRuntime) {
-    all_right(&rt, first_wrong(rt.alloc(), FAULTS));
+    all_right(&rt, rt.alloc(), FAULTS);
 }

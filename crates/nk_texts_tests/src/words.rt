@@ -1,14 +1,14 @@
 // The words that call the program, and what they call it for.
 
-use crate::rows::all_right;
+use crate::rows::{Row, all_right, right};
 use nk_words::{Command, USAGE, Usage, read_words};
 use std::alloc::Global;
 
 /// Words that are parted by one space each, and what they call for; `None` where that is nothing.
-type Row = (&'static str, Option<Command>);
+type Call = (&'static str, Option<Command>);
 
 /// Words that call for threads: how many, whether the lanes are shared, and whether there is a log.
-type ThreadsRow = (&'static str, u8, bool, bool);
+type Threads = (&'static str, u8, bool, bool);
 
 // Whether the words of a line call for this.
 fn is_call(alloc: Global, line: &str, command: Option<Command>) -> bool {
@@ -19,36 +19,25 @@ fn is_call(alloc: Global, line: &str, command: Option<Command>) -> bool {
     }
 }
 
-// The number of the first row whose words call for something else.
-fn first_wrong(alloc: Global, rows: &[Row]) -> Option<usize> {
-    let mut number: usize = 0;
-    for (line, command) in rows {
-        if !is_call(alloc, line, *command) {
-            return Some(number);
-        }
-        number = number.wrapping_add(1);
+impl Row for Call {
+    fn is_right(&self, alloc: Global) -> bool {
+        is_call(alloc, self.0, self.1)
     }
-    None
 }
 
-// The same of words that call for threads.
-fn first_wrong_threads(alloc: Global, rows: &[ThreadsRow]) -> Option<usize> {
-    let mut number: usize = 0;
-    for (line, workers, shared, log) in rows {
+impl Row for Threads {
+    fn is_right(&self, alloc: Global) -> bool {
+        let (line, workers, shared, log) = *self;
         let command = Command::Threads {
-            workers: *workers,
-            shared: *shared,
-            log: *log,
+            workers,
+            shared,
+            log,
         };
-        if !is_call(alloc, line, Some(command)) {
-            return Some(number);
-        }
-        number = number.wrapping_add(1);
+        is_call(alloc, line, Some(command))
     }
-    None
 }
 
-const NAMED: &[Row] = &[
+const NAMED: &[Call] = &[
     ("play", Some(Command::Play { log: false })),
     ("play log", Some(Command::Play { log: true })),
     ("divert 0", Some(Command::Divert(0))),
@@ -63,7 +52,7 @@ const NAMED: &[Row] = &[
     ("check", Some(Command::Check)),
 ];
 
-const THREADS: &[ThreadsRow] = &[
+const THREADS: &[Threads] = &[
     ("threads 1", 1, false, false),
     ("threads 9", 9, false, false),
     ("threads 16", 16, false, false),
@@ -77,11 +66,11 @@ const THREADS: &[ThreadsRow] = &[
 
 #[test]
 fn words_of_each_form_name_their_command(rt: HostRuntime) {
-    all_right(&rt, first_wrong(rt.alloc(), NAMED));
-    all_right(&rt, first_wrong_threads(rt.alloc(), THREADS));
+    all_right(&rt, rt.alloc(), NAMED);
+    all_right(&rt, rt.alloc(), THREADS);
 }
 
-const REFUSED: &[Row] = &[
+const REFUSED: &[Call] = &[
     ("", None),
     (" ", None),
     ("Play", None),
@@ -130,8 +119,8 @@ const REFUSED: &[Row] = &[
 
 #[test]
 fn words_of_no_form_are_refused(rt: HostRuntime) {
-    all_right(&rt, first_wrong(rt.alloc(), REFUSED));
-    assert!(rt; read_words(&[]) == Err(Usage));
+    all_right(&rt, rt.alloc(), REFUSED);
+    right(&rt, read_words(&[]) == Err(Usage));
 }
 
 // The line that answers them.
@@ -140,5 +129,5 @@ const LINE: &str =
 
 #[test]
 fn the_usage_line_has_each_form(rt: HostRuntime) {
-    assert!(rt; USAGE == LINE);
+    right(&rt, USAGE == LINE);
 }

@@ -1,11 +1,13 @@
 -- What stands first in the bytes of a stream.
-use Rattle.std.proofs.Common.{◌≡◌, ◌≤◌, ◌+◌, ◌-◌, ℕ, true, false, ltb, List, length, take, drop, Ok, Option, Some, refl, sym, ap, subst, ◌∙◌, arith, if◌then◌else◌, inl, inr}
+use Rattle.std.proofs.Common.{◌≡◌, ◌≤◌, ◌+◌, ◌-◌, ℕ, true, false, ltb, List, length, take, drop, Ok, Err, Option, Some, None, refl, sym, ap, subst, ◌∙◌, arith, if◌then◌else◌, inl, inr}
 use Rattle.std.proofs.lemmas.Bool.{le-ltb, ltb-false}
 use Rattle.std.proofs.lemmas.List.{length-drop, length-take-le, drop-drop, take_all}
+use Rattle.nk_wire.specs.declared.error.FrameCause.{FrameCause}
+use Rattle.nk_wire.specs.declared.error.FrameCause.TheVariants as cause
 use Rattle.nk_wire.specs.declared.error.FrameError.{FrameError}
 use Rattle.nk_wire.specs.declared.message.AnyMsg.{AnyMsg}
 use Rattle.nk_wire.specs.Reading.{any_answer}
-use Rattle.nk_wire.specs.Streams.{Stream, First, Part, BadLength, Whole, first, whole, is_length, length_of, Looks, IsNext}
+use Rattle.nk_wire.specs.Streams.{Stream, First, Part, BadLength, Whole, first, whole, is_length, length_of, Looks, IsNext, error_at, kept_after}
 use Rattle.nk_wire.proofs.Ranges.{within-from}
 use Rattle.nk_wire.proofs.Rows.{chosen}
 
@@ -94,3 +96,22 @@ pub next-from_view : (items : List ℕ) (at offset : ℕ) (error : Option FrameE
 next-from_view items at offset error m size look =
     subst (λ (u : List ℕ). IsNext (made (drop at items) offset error) (first (drop at items)) (Ok (Some m)) (made u (offset + size) error)) (drop-drop size at items)
     (next-from_look (made (drop at items) offset error) m size look)
+
+-- where nothing whole stands first, the stream stays
+pub none_next : (s : Stream) (f : First) → Looks f (Ok None) → IsNext s f (Ok None) s
+none_next s Part look = (refl, refl)
+none_next s (BadLength n) look = absurd (cc (look))
+none_next s (Whole rest more) look = absurd look
+
+-- and what is wrong is its error from then on
+pub fail_next : (s new : Stream) (f : First) (c : FrameCause) (e : FrameError) → Looks f (Err c) → e ≡ error_at s c → new ≡ kept_after s c
+    → IsNext s f (Err e) new
+fail_next s new Part c e look wrong kept = absurd (cc (look))
+fail_next s new (BadLength n) (cause.Length k) e look wrong kept =
+    let same : cause.Length k ≡ cause.Length n = cc (look) in
+    (ap (λ (f : FrameError). Err f) (wrong ∙ ap (λ (c : FrameCause). error_at s c) same), kept ∙ ap (λ (c : FrameCause). kept_after s c) same)
+fail_next s new (BadLength n) (cause.Decode d) e look wrong kept = absurd (cc (look))
+fail_next s new (BadLength n) (cause.Cut have need) e look wrong kept = absurd (cc (look))
+fail_next s new (Whole rest more) (cause.Length n) e look wrong kept = absurd look
+fail_next s new (Whole rest more) (cause.Decode d) e look wrong kept = (d, wrong, look, kept)
+fail_next s new (Whole rest more) (cause.Cut have need) e look wrong kept = absurd look

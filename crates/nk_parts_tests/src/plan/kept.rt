@@ -9,7 +9,6 @@ use nk_plan::{
     kept_status, merged,
 };
 use std::alloc::Global;
-use std::test::Fail;
 
 const PIPE: ListenerKind = ListenerKind::Pipe {
     segment: 4,
@@ -30,70 +29,77 @@ const FULL: Parts = Parts {
     closed: false,
 };
 
-/// The full plan, with one of its parts changed.
+/// The full plan, and then with one of its parts changed.
+const PLANS: &[Parts<'static>] = &[
+    FULL,
+    Parts { window: 1, ..FULL },
+    Parts {
+        listener: PIPE,
+        ..FULL
+    },
+    Parts {
+        reactions: &[Reaction::StartRetarget(1)],
+        ..FULL
+    },
+    Parts {
+        reactions: &[],
+        ..FULL
+    },
+    Parts {
+        controls: &[RESUME, RESUME],
+        ..FULL
+    },
+    Parts {
+        controls: &[],
+        ..FULL
+    },
+    Parts {
+        controls: &[],
+        closed: true,
+        ..FULL
+    },
+    Parts {
+        hops: &[Met::Response(2, 5, Finish::Good, 1, true)],
+        ..FULL
+    },
+    Parts {
+        hops: &[Met::Response(2, 5, Finish::Good, 2, true)],
+        ..FULL
+    },
+    Parts {
+        hops: &[Met::Response(1, 5, Finish::Good, 1, true)],
+        ..FULL
+    },
+    Parts {
+        hops: &[Met::Response(2, 6, Finish::Good, 1, true)],
+        ..FULL
+    },
+    Parts {
+        hops: &[Met::Response(2, 5, Finish::Fail(RESET), 0, true)],
+        ..FULL
+    },
+    Parts {
+        hops: &[REDIRECTS, FAILS],
+        ..FULL
+    },
+    Parts {
+        hops: &[FAILS],
+        ..FULL
+    },
+];
+
+/// The plan of this number, or the full one.
 fn parts(number: usize) -> Parts<'static> {
-    match number {
-        0 => FULL,
-        1 => Parts { window: 1, ..FULL },
-        2 => Parts {
-            listener: PIPE,
-            ..FULL
-        },
-        3 => Parts {
-            reactions: &[Reaction::StartRetarget(1)],
-            ..FULL
-        },
-        4 => Parts {
-            reactions: &[],
-            ..FULL
-        },
-        5 => Parts {
-            controls: &[RESUME, RESUME],
-            ..FULL
-        },
-        6 => Parts {
-            controls: &[],
-            ..FULL
-        },
-        7 => Parts {
-            controls: &[],
-            closed: true,
-            ..FULL
-        },
-        8 => Parts {
-            hops: &[Met::Response(2, 5, Finish::Good, 1, true)],
-            ..FULL
-        },
-        9 => Parts {
-            hops: &[Met::Response(2, 5, Finish::Good, 2, true)],
-            ..FULL
-        },
-        10 => Parts {
-            hops: &[Met::Response(1, 5, Finish::Good, 1, true)],
-            ..FULL
-        },
-        11 => Parts {
-            hops: &[Met::Response(2, 6, Finish::Good, 1, true)],
-            ..FULL
-        },
-        12 => Parts {
-            hops: &[Met::Response(2, 5, Finish::Fail(RESET), 0, true)],
-            ..FULL
-        },
-        13 => Parts {
-            hops: &[REDIRECTS, FAILS],
-            ..FULL
-        },
-        _ => Parts {
-            hops: &[FAILS],
-            ..FULL
-        },
+    if number < PLANS.len() {
+        PLANS[number]
+    } else {
+        FULL
     }
 }
 
 impl Numbered for ChannelPlan {
-    fn numbered(alloc: Global, number: usize) -> Result<ChannelPlan, Fail> {
-        Ok(made(alloc, parts(number))??)
+    fn numbered(alloc: Global, number: usize) -> Option<ChannelPlan> {
+        made(alloc, parts(number))?.ok()
     }
 
     fn shared(&self) -> Result<ChannelPlan, Memory> {
@@ -105,84 +111,112 @@ impl Numbered for ChannelPlan {
     }
 }
 
-#[test]
-fn a_plan_is_made_shared_and_compared(rt: HostRuntime) -> Result<(), Fail> {
-    let alloc = rt.alloc();
-    assert_eq!(rt; first_confused::<ChannelPlan>(alloc, 15)?, None);
-    let plan = ChannelPlan::numbered(alloc, 0)?;
-    let mut shared = plan.share()?;
-    shared.window = 1;
-    assert!(rt; !plan.same(&shared));
+/// How many plans there are once this one is kept.
+fn kept(alloc: Global, plan: ChannelPlan) -> Option<usize> {
     let mut plans = Plans::new(alloc);
-    plans.push(shared)?;
-    assert_eq!(rt; plans.len(), 1);
-    Ok(())
+    plans.push(plan).ok()?;
+    Some(plans.len())
 }
 
-/// The end of a channel that has a reader and something of each list.
-fn end(alloc: Global) -> Result<ChannelEnd, Fail> {
-    let mut trace = Trace::new(alloc);
-    trace.push(Entry::Start {
-        code: 200,
-        status: OK,
-    })?;
-    let mut readers = Readers::new(alloc);
+/// Whether a plan is the same as its share with another window, and how many there are once the share is kept.
+fn shared(alloc: Global) -> Option<(bool, usize)> {
+    let plan = ChannelPlan::numbered(alloc, 0)?;
+    let mut share = plan.share().ok()?;
+    share.window = 1;
+    let is_same = plan.same(&share);
+    Some((is_same, kept(alloc, share)?))
+}
+
+#[test]
+fn a_plan_is_made_shared_and_compared(rt: HostRuntime) {
+    let seen = (
+        first_confused::<ChannelPlan>(rt.alloc(), 15),
+        shared(rt.alloc()),
+    );
+    assert_eq!(rt; seen, (None, Some((false, 1))));
+}
+
+/// Puts a reader and something of each list into the end of a channel.
+fn fill(alloc: Global, end: &mut ChannelEnd) -> Option<()> {
+    let (code, status) = (200, OK);
+    end.trace.push(Entry::Start { code, status }).ok()?;
     let bytes = ByteList::new(alloc);
     let status = None;
-    readers.push(ReaderEnd { bytes, status })?;
-    let mut parent = ParentJournal::new(alloc);
-    parent.push(ParentEntry::Took(UpMsg::Open))?;
-    let mut child = ChildJournal::new(alloc);
-    child.push(ChildEntry::RunDrop {
+    end.readers.push(ReaderEnd { bytes, status }).ok()?;
+    end.parent.push(ParentEntry::Took(UpMsg::Open)).ok()?;
+    let dropped = ChildEntry::RunDrop {
         target: Target::Worker(1),
         offset: 5,
         status: RESET,
-    })?;
-    Ok(ChannelEnd {
-        trace,
-        readers,
+    };
+    end.child.push(dropped).ok()
+}
+
+/// How many ends there are once this one is kept.
+fn kept_end(alloc: Global, end: ChannelEnd) -> Option<usize> {
+    let mut ends = Ends::new(alloc);
+    ends.push(end).ok()?;
+    Some(ends.len())
+}
+
+/// How many entries, readers and events of both journals the end of a channel has, and how many ends there are then.
+fn counts(alloc: Global) -> Option<([usize; 4], usize)> {
+    let mut end = ChannelEnd {
+        trace: Trace::new(alloc),
+        readers: Readers::new(alloc),
         ending: Ending::Going,
-        parent,
-        child,
+        parent: ParentJournal::new(alloc),
+        child: ChildJournal::new(alloc),
         forwarded: 0,
-    })
+    };
+    fill(alloc, &mut end)?;
+    let counts = [
+        end.trace.len(),
+        end.readers.len(),
+        end.parent.len(),
+        end.child.len(),
+    ];
+    Some((counts, kept_end(alloc, end)?))
 }
 
 #[test]
-fn entries_are_kept(rt: HostRuntime) -> Result<(), Fail> {
-    let alloc = rt.alloc();
-    let end = end(alloc)?;
-    assert_eq!(rt; (end.trace.len(), end.readers.len()), (1, 1));
-    assert_eq!(rt; (end.parent.len(), end.child.len()), (1, 1));
-    let mut ends = Ends::new(alloc);
-    ends.push(end)?;
-    assert_eq!(rt; ends.len(), 1);
-    Ok(())
+fn entries_are_kept(rt: HostRuntime) {
+    assert_eq!(rt; counts(rt.alloc()), Some(([1; 4], 1)));
+}
+
+/// The number of the first row of what is kept, a status that comes, and what is kept then, that is not so.
+fn first_wrong(rows: &[(Option<Status>, Status, Option<Status>)]) -> Option<usize> {
+    for (i, row) in rows.iter().enumerate() {
+        if merged(row.0, row.1) != row.2 {
+            return Some(i);
+        }
+    }
+    None
 }
 
 #[test]
 fn the_first_failure_is_kept(rt: HostRuntime) {
     let aborted = Status::BINDING_ABORTED;
-    for (kept, status, then) in [
+    let rows = [
         (None, OK, None),
         (None, Status(0x7fff_ffff), None),
         (None, RESET, Some(RESET)),
         (Some(RESET), OK, Some(RESET)),
         (Some(RESET), aborted, Some(RESET)),
-    ] {
-        assert_eq!(rt; merged(kept, status), then);
-    }
-    assert_eq!(rt;
-        (kept_status(None), kept_status(Some(aborted))),
-        (OK, aborted)
+    ];
+    let seen = (
+        first_wrong(&rows),
+        kept_status(None),
+        kept_status(Some(aborted)),
     );
+    assert_eq!(rt; seen, (None, OK, aborted));
 }
 
 /// The class of one event of each kind.
-fn classes(alloc: Global) -> Result<[Class; 6], Fail> {
+fn classes(alloc: Global) -> Option<[Class; 6]> {
     let (offset, status) = (0, OK);
-    let piece = Piece::new(alloc, b"a")?;
-    Ok([
+    let piece = Piece::new(alloc, b"a").ok()?;
+    Some([
         ChildEvent::Start { code: 200, status }.class(),
         ChildEvent::Bytes {
             offset,
@@ -198,11 +232,8 @@ fn classes(alloc: Global) -> Result<[Class; 6], Fail> {
 }
 
 #[test]
-fn data_alone_goes_where_data_is_delivered(rt: HostRuntime) -> Result<(), Fail> {
+fn data_alone_goes_where_data_is_delivered(rt: HostRuntime) {
     let main = Class::Fixed(Target::Main);
-    assert_eq!(rt;
-        classes(rt.alloc())?,
-        [main, Class::Delivery, main, main, main, main]
-    );
-    Ok(())
+    let all = [main, Class::Delivery, main, main, main, main];
+    assert_eq!(rt; classes(rt.alloc()), Some(all));
 }

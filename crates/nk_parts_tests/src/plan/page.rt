@@ -1,10 +1,9 @@
 // What the listener does and what the page calls, and the window: where a plan is refused for them.
 
-use super::{EMPTY, FAILS, Met, OK, Parts, REDIRECTS, RESET, RESUME, body, plan_of, refusal};
+use super::{EMPTY, FAILS, Met, OK, Parts, REDIRECTS, RESET, RESUME, body, meets, plan_of};
 use nk_base::Status;
 use nk_plan::{Act, Control, Finish, ListenerKind, PlanError, Reaction, Verdict};
 use std::alloc::Global;
-use std::test::Fail;
 
 /// A pipe with these sizes, and so many readers.
 const fn pipe(segment: u32, limit: u32, readers: u8) -> ListenerKind {
@@ -19,24 +18,27 @@ const fn pipe(segment: u32, limit: u32, readers: u8) -> ListenerKind {
 #[derive(Clone, Copy, Drop)]
 struct PipeRow(usize, usize, ListenerKind, bool);
 
-/// Whether a plan is refused for its listener exactly where its row says so.
-fn is_pipe_so(alloc: Global, row: &PipeRow) -> Result<bool, Fail> {
-    let hops = [body(row.0, row.1)];
-    let mut parts = plan_of(&hops);
-    parts.listener = row.2;
-    is_so(alloc, parts, row.3, PlanError::BadListener)
+/// Whether a plan is refused with this cause, or not refused where it is good.
+fn is_so(alloc: Global, parts: Parts, is_good: bool, cause: PlanError) -> bool {
+    let wanted = if is_good { None } else { Some(cause) };
+    meets(alloc, parts, wanted)
 }
 
-/// Whether a plan is refused with this cause, or not refused where it is good.
-fn is_so(alloc: Global, parts: Parts, is_good: bool, cause: PlanError) -> Result<bool, Fail> {
-    match refusal(alloc, parts)? {
-        None => Ok(is_good),
-        Some(refused) => Ok(!is_good && refused == cause),
+/// The number of the first row whose plan is not refused for its listener exactly where the row says so.
+fn first_wrong_pipe(alloc: Global, rows: &[PipeRow]) -> Option<usize> {
+    for (i, row) in rows.iter().enumerate() {
+        let hops = [body(row.0, row.1)];
+        let mut parts = plan_of(&hops);
+        parts.listener = row.2;
+        if !is_so(alloc, parts, row.3, PlanError::BadListener) {
+            return Some(i);
+        }
     }
+    None
 }
 
 #[test]
-fn a_pipe_is_refused_by_its_sizes_and_by_what_is_read(rt: HostRuntime) -> Result<(), Fail> {
+fn a_pipe_is_refused_by_its_sizes_and_by_what_is_read(rt: HostRuntime) {
     let rows = [
         PipeRow(31, 131_072, pipe(4, 1, 1), false),
         PipeRow(1, 9, pipe(4, 1, 1), true),
@@ -52,10 +54,7 @@ fn a_pipe_is_refused_by_its_sizes_and_by_what_is_read(rt: HostRuntime) -> Result
         PipeRow(512, 131_072, pipe(65_536, 1, 2), true),
         PipeRow(512, 131_072, pipe(65_536, 1, 3), false),
     ];
-    for (i, row) in rows.iter().enumerate() {
-        assert!(rt; is_pipe_so(rt.alloc(), row)?, "row {i}");
-    }
-    Ok(())
+    assert_eq!(rt; first_wrong_pipe(rt.alloc(), &rows), None);
 }
 
 /// What the listener does or the page calls, or a window, and whether it may stand in a plan.
@@ -67,7 +66,7 @@ enum PageRow {
 }
 
 /// Whether a plan is refused exactly where its row says so.
-fn is_page_so(alloc: Global, row: PageRow) -> Result<bool, Fail> {
+fn is_page_so(alloc: Global, row: PageRow) -> bool {
     let mut parts = plan_of(&[FAILS]);
     match row {
         PageRow::Reacts(reaction, is_good) => {
@@ -87,12 +86,22 @@ fn is_page_so(alloc: Global, row: PageRow) -> Result<bool, Fail> {
     }
 }
 
-fn bytes_fail(nth: u32, status: Status) -> Reaction {
+/// The number of the first row that is not so.
+fn first_wrong(alloc: Global, rows: &[PageRow]) -> Option<usize> {
+    for (i, row) in rows.iter().enumerate() {
+        if !is_page_so(alloc, *row) {
+            return Some(i);
+        }
+    }
+    None
+}
+
+const fn bytes_fail(nth: u32, status: Status) -> Reaction {
     Reaction::BytesFail { nth, status }
 }
 
 #[test]
-fn what_the_page_does_is_refused_where_it_is_out_of_range(rt: HostRuntime) -> Result<(), Fail> {
+fn what_the_page_does_is_refused_where_it_is_out_of_range(rt: HostRuntime) {
     let rows = [
         PageRow::Reacts(Reaction::StartRetarget(0), false),
         PageRow::Reacts(Reaction::StartRetarget(1), true),
@@ -122,75 +131,81 @@ fn what_the_page_does_is_refused_where_it_is_out_of_range(rt: HostRuntime) -> Re
         PageRow::Window(16_777_216, true),
         PageRow::Window(16_777_217, false),
     ];
-    for (i, row) in rows.iter().enumerate() {
-        assert!(rt; is_page_so(rt.alloc(), *row)?, "row {i}");
-    }
-    Ok(())
+    assert_eq!(rt; first_wrong(rt.alloc(), &rows), None);
 }
 
-/// Whether a plan is refused with this cause, or not refused where there is none.
-fn meets(alloc: Global, parts: Parts, cause: Option<PlanError>) -> Result<bool, Fail> {
-    Ok(refusal(alloc, parts)? == cause)
+/// What the listener does, so many calls of the page, each after one callback more, or what the page calls in a plan
+/// that is never opened.
+#[derive(Clone, Copy, Drop)]
+enum Listed {
+    Reactions(&'static [Reaction]),
+    Calls(u32),
+    Closed(&'static [Control]),
 }
 
-/// Whether a plan whose listener does this is refused so.
-fn reactions_meet(
-    alloc: Global,
-    reactions: &'static [Reaction],
-    cause: Option<PlanError>,
-) -> Result<bool, Fail> {
-    let mut parts = plan_of(&[FAILS]);
-    parts.reactions = reactions;
-    meets(alloc, parts, cause)
-}
-
-/// Whether a plan with so many calls of its page, each after one callback more, is refused so.
-fn calls_meet(alloc: Global, count: u32, cause: Option<PlanError>) -> Result<bool, Fail> {
+/// Whether a plan with so many calls of its page is refused so.
+fn calls_meet(alloc: Global, count: u32, cause: Option<PlanError>) -> bool {
     let mut all = Vec::new(alloc);
     for after in 0..count {
         let act = Act::Resume;
-        all.push(Control { after, act })?;
+        if all.push(Control { after, act }).is_err() {
+            return false;
+        }
     }
     let mut parts = plan_of(&[FAILS]);
     parts.controls = all.as_slice();
     meets(alloc, parts, cause)
 }
 
-/// Whether a plan with these calls that is never opened is refused so.
-fn closed_meets(
-    alloc: Global,
-    controls: &'static [Control],
-    cause: Option<PlanError>,
-) -> Result<bool, Fail> {
+/// Whether a plan with this list is refused so.
+fn list_meets(alloc: Global, list: Listed, cause: Option<PlanError>) -> bool {
     let mut parts = plan_of(&[FAILS]);
-    parts.controls = controls;
-    parts.closed = true;
+    match list {
+        Listed::Reactions(reactions) => parts.reactions = reactions,
+        Listed::Calls(count) => return calls_meet(alloc, count, cause),
+        Listed::Closed(controls) => {
+            parts.controls = controls;
+            parts.closed = true;
+        }
+    }
     meets(alloc, parts, cause)
 }
+
+/// The number of the first list that is not refused as is said beside it.
+fn first_wrong_list(alloc: Global, rows: &[(Listed, Option<PlanError>)]) -> Option<usize> {
+    for (i, row) in rows.iter().enumerate() {
+        if !list_meets(alloc, row.0, row.1) {
+            return Some(i);
+        }
+    }
+    None
+}
+
+const BAD_REACTION: &[Reaction] = &[Reaction::StartRetarget(17)];
 
 const SUSPENDS: &[Reaction] = &[Reaction::StartSuspend; 64];
 
 const ONE_SUSPEND_MORE: &[Reaction] = &[Reaction::StartSuspend; 65];
 
 #[test]
-fn the_page_and_its_listener_are_refused(rt: HostRuntime) -> Result<(), Fail> {
-    let alloc = rt.alloc();
-    for (reactions, cause) in [
+fn the_page_and_its_listener_are_refused(rt: HostRuntime) {
+    let first = Some(PlanError::BadControl(0));
+    let rows = [
         (
-            [Reaction::StartRetarget(17)].as_slice(),
+            Listed::Reactions(BAD_REACTION),
             Some(PlanError::BadReaction(0)),
         ),
-        (SUSPENDS, None),
-        (ONE_SUSPEND_MORE, Some(PlanError::BadReaction(64))),
-    ] {
-        assert!(rt; reactions_meet(alloc, reactions, cause)?);
-    }
-    for (count, cause) in [(64, None), (65, Some(PlanError::BadControl(64)))] {
-        assert!(rt; calls_meet(alloc, count, cause)?, "{count} calls");
-    }
-    assert!(rt; closed_meets(alloc, &[RESUME], Some(PlanError::BadControl(0)))?);
-    assert!(rt; closed_meets(alloc, &[], None)?);
-    Ok(())
+        (Listed::Reactions(SUSPENDS), None),
+        (
+            Listed::Reactions(ONE_SUSPEND_MORE),
+            Some(PlanError::BadReaction(64)),
+        ),
+        (Listed::Calls(64), None),
+        (Listed::Calls(65), Some(PlanError::BadControl(64))),
+        (Listed::Closed(&[RESUME]), first),
+        (Listed::Closed(&[]), None),
+    ];
+    assert_eq!(rt; first_wrong_list(rt.alloc(), &rows), None);
 }
 
 const NO_HOP: Met = Met::Redirect(200, Verdict::Allow);
@@ -213,7 +228,7 @@ fn hops_of(row: usize) -> &'static [Met] {
 }
 
 /// Whether a plan in which this row's part, and all that is looked at behind it, is wrong is refused for that part.
-fn is_first_named(alloc: Global, row: usize, cause: PlanError) -> Result<bool, Fail> {
+fn is_first_named(alloc: Global, row: usize, cause: PlanError) -> bool {
     let mut parts = plan_of(hops_of(row));
     parts.listener = if row < 8 {
         pipe(0, 0, 0)
@@ -231,8 +246,18 @@ fn is_first_named(alloc: Global, row: usize, cause: PlanError) -> Result<bool, F
     meets(alloc, parts, Some(cause))
 }
 
+/// The number of the first row whose part is not named.
+fn first_unnamed(alloc: Global, causes: &[PlanError]) -> Option<usize> {
+    for (row, cause) in causes.iter().enumerate() {
+        if !is_first_named(alloc, row, *cause) {
+            return Some(row);
+        }
+    }
+    None
+}
+
 #[test]
-fn of_several_refusals_of_a_plan_the_first_is_named(rt: HostRuntime) -> Result<(), Fail> {
+fn of_several_refusals_of_a_plan_the_first_is_named(rt: HostRuntime) {
     let causes = [
         PlanError::NoHop,
         PlanError::TooManyHops(33),
@@ -246,8 +271,5 @@ fn of_several_refusals_of_a_plan_the_first_is_named(rt: HostRuntime) -> Result<(
         PlanError::BadControl(0),
         PlanError::BadWindow,
     ];
-    for (row, cause) in causes.iter().enumerate() {
-        assert!(rt; is_first_named(rt.alloc(), row, *cause)?, "row {row}");
-    }
-    Ok(())
+    assert_eq!(rt; first_unnamed(rt.alloc(), &causes), None);
 }
