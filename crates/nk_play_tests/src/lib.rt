@@ -31,4 +31,6 @@ mod run_words;
 #[cfg(test)]
 mod scripts;
 #[cfg(test)]
+mod walk;
+#[cfg(test)]
 mod world;

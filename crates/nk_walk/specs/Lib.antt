@@ -1,0 +1,10 @@
+pub mod Left
+pub mod Laws
+pub mod Placed
+pub mod Listed
+pub mod Cut
+pub mod CutLaws
+pub mod Sums
+pub mod DownLaws
+pub mod Rest
+pub mod Counted
