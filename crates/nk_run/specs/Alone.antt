@@ -8,7 +8,7 @@ use Rattle.nk_script.specs.declared.script.Cause.{Cause}
 use Rattle.nk_script.specs.Grammar.{IsTextOf, IsFirstBadLine}
 use Rattle.nk_words.specs.declared.command.Command.{Command}
 use Rattle.nk_words.specs.declared.command.Command.TheVariants.{Play, Divert, Threads, Frames, Gen, Check}
-use Rattle.nk_words.specs.Words.{IsCallOf}
+use Rattle.nk_words.specs.Words.{IsCallOf, usage_line}
 use Rattle.nk_run.specs.Ends.{IsReport}
 use Rattle.nk_run.specs.Failures.{line}
 
@@ -74,7 +74,7 @@ too_large = line (codes "error: input too large")
 -- what is printed of the other statuses
 abbrev pub told_of : ℕ → List ℕ
 told_of status =
-    if status == 2 then line (codes "usage: necklane play [log] | divert K | threads N [shared] [log] | frames | gen N | check")
+    if status == 2 then usage_line
     else (if status == 3 then line (codes "error: read")
     else (if status == 4 then line (codes "error: write")
     else (if status == 5 then line (codes "error: memory") else [])))

@@ -6,6 +6,7 @@ use Rattle.nk_wire.specs.declared.error.DecodeError.TheVariants as error
 use Rattle.nk_wire.specs.declared.error.FrameCause.{FrameCause}
 use Rattle.nk_wire.specs.declared.error.FrameCause.TheVariants as frame_cause
 use Rattle.nk_wire.specs.declared.error.FrameError.{FrameError}
+use Rattle.nk_words.specs.Words.{usage_line}
 use Rattle.nk_run.specs.Frames.{bad_frame}
 use Rattle.nk_run.specs.declared.failure.Failure.{Failure}
 use Rattle.nk_run.specs.declared.failure.Failure.TheVariants as failure
@@ -37,7 +38,7 @@ abbrev pub line_of : Failure → List ℕ
 line_of (failure.Line number c) = bad_line number c
 line_of (failure.Frame e) = bad_frame e
 line_of failure.TooLarge = line (codes "error: input too large")
-line_of failure.Usage = line (codes "usage: necklane play [log] | divert K | threads N [shared] [log] | frames | gen N | check")
+line_of failure.Usage = usage_line
 line_of failure.Read = line (codes "error: read")
 line_of failure.Write = line (codes "error: write")
 line_of failure.Memory = line (codes "error: memory")

@@ -12,6 +12,7 @@ use nk_base::Memory;
 use nk_io::{Sink, WriteFault, write_all};
 use nk_script::Cause;
 use nk_wire::{DecodeError, FrameCause, FrameError};
+use nk_words::usage_line;
 use std::alloc::Global;
 
 /// Why a run ended early.
@@ -104,8 +105,7 @@ impl Failure {
             Failure::Line { .. } => unreachable!(),
             Failure::Frame(_) => unreachable!(),
             Failure::TooLarge => b"error: input too large\n",
-            Failure::Usage =>
-                b"usage: necklane play [log] | divert K | threads N [shared] [log] | frames | gen N | check\n",
+            Failure::Usage => usage_line(),
             Failure::Read => b"error: read\n",
             Failure::Write => b"error: write\n",
             Failure::Memory => b"error: memory\n",

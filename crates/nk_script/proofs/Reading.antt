@@ -12,7 +12,7 @@ use Rattle.nk_script.specs.declared.script.Cause.{Cause}
 use Rattle.nk_script.specs.declared.script.Cause.TheVariants as cause
 use Rattle.nk_script.specs.Texts.{onto_first, lines, before, behind, or_nothing}
 use Rattle.nk_script.specs.Draft.{start, after, plans_of, plan_of, is_within}
-use Rattle.nk_script.specs.Grammar.{IsForm, Stands, Ends, IsTextOf, Breaks, IsRefused, script_of}
+use Rattle.nk_script.specs.Grammar.{Stands, Ends, IsTextOf, Breaks, IsRefused, script_of}
 use Rattle.nk_script.specs.Order.{may_end}
 use Rattle.nk_script.specs.Answers.{IsTaken, IsLineAnswer, Blames, IsScriptOrMemory, IsErrorOrMemory, error_at}
 use Rattle.nk_script.specs.declared.read.Refusal.{Refusal}

@@ -7,3 +7,4 @@ pub mod Draft
 pub mod Grammar
 pub mod Starts
 pub mod Answers
+pub mod LineLaws

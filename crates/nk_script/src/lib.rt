@@ -5,6 +5,7 @@ mod draft;
 mod field;
 mod form;
 mod keyword;
+mod laws;
 mod line;
 mod number;
 mod piece;
@@ -18,6 +19,7 @@ mod text;
 mod worded;
 
 pub use draft::{Draft, Response};
+pub use laws::line_law;
 pub use line::{HopLine, Keyword, Line, Place};
 pub use read::{Refusal, read_script};
 pub use reader::Reader;

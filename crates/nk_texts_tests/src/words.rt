@@ -1,7 +1,7 @@
 // The words that call the program, and what they call it for.
 
 use crate::rows::{Row, all_right, right};
-use nk_words::{Command, USAGE, Usage, read_words};
+use nk_words::{Command, Usage, read_words, usage_line};
 use std::alloc::Global;
 
 /// Words that are parted by one space each, and what they call for; `None` where that is nothing.
@@ -124,10 +124,10 @@ fn words_of_no_form_are_refused(rt: HostRuntime) {
 }
 
 // The line that answers them.
-const LINE: &str =
-    "usage: necklane play [log] | divert K | threads N [shared] [log] | frames | gen N | check";
+const LINE: &[u8] =
+    b"usage: necklane play [log] | divert K | threads N [shared] [log] | frames | gen N | check\n";
 
 #[test]
 fn the_usage_line_has_each_form(rt: HostRuntime) {
-    right(&rt, USAGE == LINE);
+    right(&rt, usage_line() == LINE);
 }

@@ -22,6 +22,10 @@ spelling Frames = codes "frames" ∷ []
 spelling (Gen seed) = codes "gen" ∷ decimal seed ∷ []
 spelling Check = codes "check" ∷ []
 
+-- the line that answers words that call none
+abbrev pub usage_line : List ℕ
+usage_line = codes "usage: necklane play [log] | divert K | threads N [shared] [log] | frames | gen N | check" ++ 10 ∷ []
+
 -- the numbers of a command are in range
 abbrev pub IsInRange : Command → Type 0
 IsInRange (Play log) = Unit {0}

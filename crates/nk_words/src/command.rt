@@ -1,15 +1,18 @@
 // The commands of the program, and the words that call each of them.
 
 ghost use Rattle.std.specs.Prelude.{◌≡◌, ℕ, map, Ok, IfOk};
-ghost use Rattle.nk_words.specs.Words.{IsCallOf, threads_words};
+ghost use Rattle.nk_words.specs.Words.{IsCallOf, threads_words, usage_line};
 ghost use Rattle.nk_words.specs.Decimal.{IsSpelledWithin};
 ghost use Rattle.nk_words.specs.declared.command.Command.{Command as Called};
 
 use crate::decimal::read_decimal;
 
-/// The line that answers words without a meaning; it is printed with a line feed (this project's own).
-pub const USAGE: &str =
-    "usage: necklane play [log] | divert K | threads N [shared] [log] | frames | gen N | check";
+/// The line that answers words without a meaning, with its line feed (this project's own).
+pub fn usage_line() -> &'static [u8]
+    ensures { result.now ≡ usage_line }
+{
+    b"usage: necklane play [log] | divert K | threads N [shared] [log] | frames | gen N | check\n"
+}
 
 // The most pieces that a page may see before its load is handed back.
 const MOST_PIECES: u32 = 65_536;

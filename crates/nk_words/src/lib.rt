@@ -4,4 +4,4 @@
 mod command;
 mod decimal;
 
-pub use command::{Command, USAGE, Usage, read_words};
+pub use command::{Command, Usage, read_words, usage_line};

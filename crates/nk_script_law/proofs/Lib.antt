@@ -1,0 +1,5 @@
+mod Found
+mod Forms
+mod OneLine
+mod OneScript
+mod Decided
