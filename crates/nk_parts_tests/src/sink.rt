@@ -129,9 +129,15 @@ fn are_ends(readers: &Readers, ends: &[End]) -> bool {
     true
 }
 
+/// Whether these are the ends of the readers, of a listener that has kept all that it was shown.
 fn ends_are(listener: Listener, ends: &[End]) -> bool {
-    match listener.into_ends() {
-        Ok(readers) => are_ends(&readers, ends),
+    if listener.has_failed() || usize::from(listener.readers()) != ends.len() {
+        return false;
+    }
+    let shown = listener.entries().len();
+    let (entries, readers) = listener.into_parts();
+    match readers {
+        Ok(readers) => entries.len() == shown && are_ends(&readers, ends),
         Err(_) => false,
     }
 }

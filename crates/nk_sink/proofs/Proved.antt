@@ -101,7 +101,7 @@ pub lowers_law : LowersLaw
 lowers_law k xs reader good done =
     lowers_by (listener_after k xs).entries reader (listener_after k xs).piped (piped_in k xs good) done
 
-idle_by : (es : List Entry) (reader : ℕ) (o : Option Piped) → IsPipedIn es o → piped_enabled reader o ≡ false → if_piped (λ w. read_by (pump_of w.pumps reader) reader w) o ≡ o
+pub idle_by : (es : List Entry) (reader : ℕ) (o : Option Piped) → IsPipedIn es o → piped_enabled reader o ≡ false → if_piped (λ w. read_by (pump_of w.pumps reader) reader w) o ≡ o
 idle_by es reader None is idle = refl
 idle_by es reader (Some w) is idle =
     ap (λ (v : Piped). Some v) (read_idle (body_of es) (stop_of es) w reader is idle)

@@ -1,10 +1,12 @@
 -- A further entry: it stands behind the others, and what then flows is the model's.
 use Rattle.std.proofs.Common.{false, ◌≡◌, ℕ, ◌+◌, ◌<◌, ◌≤◌, ◌^◌, List, [], ◌∷◌, ◌++◌, length, take, drop, Option, Some, None, Result, Ok, Err, refl, sym, ap, subst, ◌∙◌, arith}
-use Rattle.std.specs.Prelude.{OnOk}
+use Rattle.std.specs.Prelude.{IfOk, OnOk, Bool, true}
 use Rattle.std.specs.Result.{is_err}
 use Rattle.std.proofs.lemmas.List.{length-append, length-take, append_assoc, append-nil, take-append-le, drop-append-le}
 use Rattle.nk_base.specs.declared.status.Status.{Status}
 use Rattle.nk_base.specs.declared.status.Memory.{Memory}
+use Rattle.nk_base.specs.declared.status.Moved.{Moved}
+use Rattle.nk_base.specs.declared.status.Moved.TheVariants.{Idle}
 use Rattle.nk_base.specs.declared.message.Entry.{Entry}
 use Rattle.nk_base.specs.declared.message.Entry.TheVariants as entry
 use Rattle.nk_plan.specs.declared.plan.ListenerKind.{ListenerKind}
@@ -14,11 +16,11 @@ use Rattle.nk_pipe.specs.Kept.{Kept, Stands, count}
 use Rattle.nk_pump.specs.Shown.{Shown}
 use Rattle.nk_sink.specs.declared.feed.Feed.{Feed}
 use Rattle.nk_sink.specs.declared.writer.Writer.{Writer}
-use Rattle.nk_sink.specs.Listener.{Piped, Listener, flowed, fed, if_piped, entered, read_turn, body_of, stop_of, pump_of, read_by, ends_by}
-use Rattle.nk_sink.specs.Reached.{IsReached, Enter, Turn}
+use Rattle.nk_sink.specs.Listener.{Piped, Listener, flowed, fed, if_piped, entered, read_turn, piped_enabled, moved_if, body_of, stop_of, pump_of, read_by, ends_by, ends_at}
+use Rattle.nk_sink.specs.Reached.{IsReached, ListenerView, Enter, Turn}
 use Rattle.nk_sink.specs.Held.{IsPiped}
 use Rattle.nk_sink.specs.Fed.{pipe_in, piped_with, IsWithin, IsOpenAt, IsAt}
-use Rattle.nk_sink.specs.Sunk.{piped_in, listener_of, IsFed, IsFedIn, IsPipedIn, IsListening}
+use Rattle.nk_sink.specs.Sunk.{piped_in, listener_of, ends_in, IsFed, IsFedIn, IsPipedIn, IsListening}
 use Rattle.nk_sink.proofs.Flowing.{flowed_same}
 use Rattle.nk_sink.proofs.Feeding.{body_behind, stop_behind, body_append, stop_append}
 use Rattle.nk_sink.proofs.Pouring.{stands_count}
@@ -173,6 +175,25 @@ turns k es reader f f' is piped fed_is = record {
   bounded = is.bounded;
 }
 
+not_moved : (b : Bool) → moved_if b ≡ Idle → b ≡ false
+not_moved true e = cc
+not_moved false e = refl
+
+-- a turn that was idle changes nothing
+pub turn_stays : (r : Result Moved Memory) (k : ListenerKind) (es es' : List Entry) (reader : ℕ) (f f' : Option Feed) (failed : Bool) (old : ListenerView) → es' ≡ es → IsListening k es f
+    → (let v : ListenerView = record { listener = listener_of k es f; failed = false } in v) ≡ old → failed ≡ is_err r
+    → OnOk r (piped_in es' f' ≡ if_piped (λ w. read_by (pump_of w.pumps reader) reader w) (piped_in es' f)) → IfOk r (λ m. m ≡ moved_if (piped_enabled reader (piped_in es' f)))
+    → IfOk r (λ m. m ≡ Idle → (let v : ListenerView = record { listener = listener_of k es f'; failed = failed } in v) ≡ old)
+turn_stays (Err x) k es es' reader f f' failed old same is view works read answer = answer
+turn_stays (Ok m) k es es' reader f f' failed old same is view works read answer = λ idle.
+    let not_enabled : piped_enabled reader (piped_in es f) ≡ false =
+    subst (λ xs. piped_enabled reader (piped_in xs f) ≡ false) same (not_moved (piped_enabled reader (piped_in es' f)) (sym answer ∙ idle)) in
+    let stays : piped_in es f' ≡ piped_in es f =
+    subst (λ xs. piped_in xs f' ≡ if_piped (λ w. read_by (pump_of w.pumps reader) reader w) (piped_in xs f)) same read
+    ∙ laws.idle_by es reader (piped_in es f) (piped_is k es f is.reached) not_enabled in
+    let V : Option Piped → Bool → ListenerView = λ o b. record { listener = record { kind = k; entries = es; piped = o }; failed = b } in
+    ap (λ o. V o failed) stays ∙ (ap (λ b. V (piped_in es f) b) works ∙ view)
+
 -- the body fits a machine number
 pub few_bytes : (k : ListenerKind) (es : List Entry) (f : Option Feed) → IsListening k es f → length (body_of es) < 2 ^ 61
 few_bytes k es f is = omega (arith, is.bounded, is.few)
@@ -192,3 +213,8 @@ ends_push before now after ss s bytes status b t is pushed =
     ∙ ap (λ es. es ++ (record { bytes = s.bytes; status = s.stop }) ∷ []) is
     ∙ append_assoc before (ends_by ss) ((record { bytes = s.bytes; status = s.stop }) ∷ [])
     ∙ ap (λ es. before ++ es) (sym (ends_more ss s))
+
+-- what the pumps have shown is what the readers have
+pub ends_are : (es : List Entry) (f : Option Feed) → ends_in f ≡ ends_at (piped_in es f)
+ends_are es None = refl
+ends_are es (Some f) = refl

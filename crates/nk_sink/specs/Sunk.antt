@@ -1,9 +1,10 @@
 -- How a listener stands for the model. No public clause cites this module.
-use Rattle.std.specs.Prelude.{◌≡◌, ◌*◌, ◌≤◌, ◌^◌, List, length, Option, Some, None}
+use Rattle.std.specs.Prelude.{◌≡◌, ◌*◌, ◌≤◌, ◌^◌, List, [], length, Option, Some, None}
 use Rattle.nk_base.specs.declared.message.Entry.{Entry}
 use Rattle.nk_plan.specs.declared.plan.ListenerKind.{ListenerKind}
+use Rattle.nk_plan.specs.declared.ends.ReaderEnd.{ReaderEnd}
 use Rattle.nk_sink.specs.declared.feed.Feed.{Feed}
-use Rattle.nk_sink.specs.Listener.{Piped, Listener, body_of, stop_of}
+use Rattle.nk_sink.specs.Listener.{Piped, Listener, ends_by, body_of, stop_of}
 use Rattle.nk_sink.specs.Reached.{OfPiped, IsReached}
 use Rattle.nk_sink.specs.Held.{IsPiped}
 use Rattle.nk_sink.specs.Fed.{piped_with, IsAt}
@@ -14,6 +15,11 @@ piped_in es (Some f) = Some (piped_with es f.writer.pipe f.pumps.items)
 
 abbrev pub listener_of : ListenerKind → List Entry → Option Feed → Listener
 listener_of k es f = record { kind = k; entries = es; piped = piped_in es f }
+
+-- what the pumps of a pipe have shown
+abbrev pub ends_in : Option Feed → List ReaderEnd
+ends_in None = []
+ends_in (Some f) = ends_by f.pumps.items
 
 -- the entries are in the pipe as far as it says, and a read takes one segment
 pub record IsFed (es : List Entry) (f : Feed) : Type 0 where

@@ -2,9 +2,10 @@
 
 ghost use Rattle.std.specs.Prelude.{◌≡◌, ◌+◌, ◌<◌, ◌≤◌, ◌^◌, ◌++◌, ◌∷◌, [], true, false, List, length, OnOk, OnErr, IfOk};
 ghost use Rattle.nk_base.specs.declared.message.Entry.{Entry as Shows};
+ghost use Rattle.nk_base.specs.declared.status.Moved.TheVariants as moved;
 ghost use Rattle.nk_sink.specs.Listener.{new_listener, if_piped, fed, flowed, entered, read_turn, read_enabled, piped_enabled, pump_of, read_by, moved_if, ends_of, ends_by, body_of};
-ghost use Rattle.nk_sink.specs.Reached.{IsGoodKind, IsReached};
-ghost use Rattle.nk_sink.specs.Sunk.{piped_in, IsFedIn, IsPipedIn};
+ghost use Rattle.nk_sink.specs.Reached.{IsGoodKind, IsReached, readers_of};
+ghost use Rattle.nk_sink.specs.Sunk.{piped_in, ends_in, IsFedIn, IsPipedIn};
 
 use crate::feed::Feed;
 use nk_base::{Entry, Grow, Memory, Moved};
@@ -75,6 +76,23 @@ impl Listener {
         self.kind
     }
 
+    /// The number of its readers; 0 of a plain listener.
+    pub fn readers(&self) -> u8
+        ensures { result ≡ readers_of self.now.listener.kind }
+    {
+        match self.kind {
+            ListenerKind::Plain => 0,
+            ListenerKind::Pipe { readers, .. } => readers,
+        }
+    }
+
+    /// Whether it met want of memory. Then every call answers `Memory`.
+    pub fn has_failed(&self) -> bool
+        ensures { result ≡ self.now.failed }
+    {
+        self.failed
+    }
+
     /// Is shown an entry. Its data goes into the pipe, what does not fit is kept, and behind a stop the pipe is closed
     /// once nothing is kept. After `Memory` the entries are as before, and every later call answers `Memory`.
     pub fn entry(&mut self, e: Entry) -> Result<(), Memory>
@@ -94,10 +112,12 @@ impl Listener {
     }
 
     /// One turn of the pump of a reader, counted from 1, behind which what is kept is written as far as it fits. It is
-    /// `Idle` where there is no such reader, or its pump waits or is dead. After `Memory` it is as after `entry`.
+    /// `Idle`, and changes nothing, where there is no such reader, or its pump waits or is dead. After `Memory` it is as
+    /// after `entry`.
     pub fn read(&mut self, reader: u8) -> Result<Moved, Memory>
         ensures ok { OnOk result (self.new ≡ record { listener = read_turn reader self.old.listener; failed = false }) }
         ensures answer { IfOk result (λ r. r ≡ moved_if (read_enabled reader self.old.listener)) }
+        ensures idle { IfOk result (λ r. r ≡ moved.Idle → self.new ≡ self.old) }
         ensures works { OnOk result (self.old.failed ≡ false) }
         ensures err { OnErr result (self.new.failed ≡ true) }
         ensures err_entries { OnErr result (self.new.listener.entries ≡ self.old.listener.entries) }
@@ -111,16 +131,19 @@ impl Listener {
         moved
     }
 
-    /// The bytes and the stop of each reader's pump, in the order of the readers; none of a plain listener.
-    pub fn into_ends(self) -> Result<Readers, Memory>
-        ensures { IfOk result (λ r. r ≡ ends_of self.listener) }
+    /// What it was shown, in order, given away; and the bytes and the stop of each reader's pump, in the order of the
+    /// readers; none of a plain listener.
+    pub fn into_parts(self) -> (Trace, Result<Readers, Memory>)
+        ensures entries { result.0 ≡ self.listener.entries }
+        ensures readers { IfOk result.1 (λ r. r ≡ ends_of self.listener) }
     {
-        let Listener { feed, alloc, .. } = self;
-        let mut ends = Readers::new(alloc);
-        if let Some(feed) = feed {
-            push_ends(feed.pumps, &mut ends)?;
-        }
-        Ok(ends)
+        let Listener {
+            entries,
+            feed,
+            alloc,
+            ..
+        } = self;
+        (entries, reader_ends(alloc, feed))
     }
 }
 
@@ -188,6 +211,17 @@ fn read(entries: &[Entry], feed: &mut Option<Feed>, reader: u8) -> Result<Moved,
         None => Ok(Moved::Idle),
         Some(feed) => feed.read(u32::from(reader), entries),
     }
+}
+
+/// What the pumps of a pipe have shown; nothing where there is none.
+fn reader_ends(alloc: Global, feed: Option<Feed>) -> Result<Readers, Memory>
+    ensures { IfOk result (λ r. r ≡ ends_in feed) }
+{
+    let mut ends = Readers::new(alloc);
+    if let Some(feed) = feed {
+        push_ends(feed.pumps, &mut ends)?;
+    }
+    Ok(ends)
 }
 
 /// Adds what each pump has shown.

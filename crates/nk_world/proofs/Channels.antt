@@ -1,10 +1,10 @@
 -- What holds of each channel of a world.
-use Rattle.std.proofs.Common.{zero, ℕ, suc, ◌≡◌, ◌+◌, ◌<◌, ◌≤◌, refl, sym, ◌∙◌, ap, subst, List, [], ◌∷◌, ◌++◌, length, map, take, drop, slice_get, slice_set, get_or, ◌-◌, Bool, false, Option, Some, Result, Ok, Err, IfOk, arith, None}
+use Rattle.std.proofs.Common.{zero, ℕ, suc, ◌≡◌, ◌+◌, ◌<◌, ◌≤◌, refl, sym, ◌∙◌, ap, subst, List, [], ◌∷◌, ◌++◌, length, map, take, drop, slice_get, slice_set, get_or, ◌-◌, Bool, true, false, Option, Some, Result, Ok, Err, IfOk, arith, None}
 use Rattle.std.specs.List.{All, AllZip}
 use Rattle.std.specs.Option.{option_map}
-use Rattle.std.proofs.lemmas.List.{map-set, take_more, drop-set-lt, take-append-le, take_all, length-map, length-drop}
+use Rattle.std.proofs.lemmas.List.{map-set, set-get_or, take_more, drop-set-lt, take-append-le, take_all, length-map, length-drop}
 use Rattle.std.proofs.Math.Seq.{drop-cons, map-set_same, take-suc-set}
-use Rattle.std.proofs.lemmas.Option.{slice_get-map, slice_get-get_or, get_or_from_slice_get}
+use Rattle.std.proofs.lemmas.Option.{slice_get-map, slice_get-get_or, slice_get_within, get_or_from_slice_get}
 use Rattle.std.proofs.lemmas.List.Elements.{All-nil, All-cons, All-head, All-tail, AllZip-push}
 use Rattle.nk_plan.specs.declared.plan.ChannelPlan.{ChannelPlan}
 use Rattle.nk_plan.specs.declared.step.Step.{Step}
@@ -12,33 +12,36 @@ use Rattle.nk_plan.specs.declared.ends.ChannelEnd.{ChannelEnd}
 use Rattle.nk_plan.specs.Accepted.{Accepted}
 use Rattle.nk_world.specs.declared.playing.Playing.{Playing}
 use Rattle.nk_world.specs.Play.{Play, new_play, play_step, play_enabled, IsReached, IsQuiet, IsDrained, tried, round_steps}
-use Rattle.nk_world.specs.Parts.{play_of, IsSound, DrainsTo, new_parts}
+use Rattle.nk_world.specs.Parts.{play_of, IsSound, DrainsTo, new_playing}
 use Rattle.nk_world.specs.World.{WorldView, plan_of, plans_of, step_in, enabled_in, world_step, world_enabled, world_round, world_rounds, AreDrained}
 use Rattle.nk_world.specs.End.{end_of, IsEnd}
 use Rattle.nk_base.specs.declared.status.Moved.{Moved}
+use Rattle.nk_base.specs.declared.status.Moved.TheVariants.{Idle}
 use Rattle.nk_base.specs.declared.status.Memory.{Memory}
 use Rattle.nk_child.specs.Moved.{moved_if}
-use Rattle.nk_world.proofs.Idle.{IdleLaws}
+use Rattle.nk_world.specs.Laws.{PlayLaws}
+use Rattle.nk_world.proofs.Idle.{idle_step}
+use Rattle.nk_world.proofs.Plays.{reached_new}
 use Rattle.nk_world.proofs.Worlds.{drained_apart}
 use Rattle.nk_world.proofs.Ends.{EndLaws, is_end}
 
 -- before the first step
 
-sound_new : (c : ChannelPlan) → Accepted c → IsSound (new_parts c)
-sound_new c a = record { reached = record { accepted = a; steps = []; led = refl }; parts = refl }
+sound_new : (c : ChannelPlan) → Accepted c → IsSound (new_playing c)
+sound_new c a = record { reached = reached_new c a; parts = refl }
 
-all_sound : (cs : List ChannelPlan) → All Accepted cs → All IsSound (map new_parts cs)
+all_sound : (cs : List ChannelPlan) → All Accepted cs → All IsSound (map new_playing cs)
 all_sound [] a = All-nil IsSound
-all_sound (c ∷ cs) a = All-cons IsSound (new_parts c) (map new_parts cs) (sound_new c (All-head Accepted c cs a)) (all_sound cs (All-tail Accepted c cs a))
+all_sound (c ∷ cs) a = All-cons IsSound (new_playing c) (map new_playing cs) (sound_new c (All-head Accepted c cs a)) (all_sound cs (All-tail Accepted c cs a))
 
-pub new_sound : (cs : List ChannelPlan) (xs : List Playing) → All Accepted cs → xs ≡ map new_parts cs → All IsSound xs
+pub new_sound : (cs : List ChannelPlan) (xs : List Playing) → All Accepted cs → xs ≡ map new_playing cs → All IsSound xs
 new_sound cs xs a e = subst (λ (ys : List Playing). All IsSound ys) (sym e) (all_sound cs a)
 
-all_new : (cs : List ChannelPlan) → map play_of (map new_parts cs) ≡ map new_play cs
+all_new : (cs : List ChannelPlan) → map play_of (map new_playing cs) ≡ map new_play cs
 all_new [] = refl
 all_new (c ∷ cs) = ap (λ (ps : List Play). new_play c ∷ ps) (all_new cs)
 
-pub new_plays : (cs : List ChannelPlan) (xs : List Playing) → xs ≡ map new_parts cs → map play_of xs ≡ map new_play cs
+pub new_plays : (cs : List ChannelPlan) (xs : List Playing) → xs ≡ map new_playing cs → map play_of xs ≡ map new_play cs
 new_plays cs xs e = ap (λ (ys : List Playing). map play_of ys) e ∙ all_new cs
 
 -- a step of one channel
@@ -164,7 +167,28 @@ pub world_answered : (xs : List Playing) (f : Bool) (w : WorldView) (n : ℕ) (s
 world_answered xs f w n s x m e g h =
     h ∙ (ap moved_if (answered xs (n - 1) s x g) ∙ ap (λ (v : WorldView). moved_if (world_enabled n x v.plays)) e)
 
-pub world_drained : (xs ys items all : List Playing) (f : Bool) (w : WorldView) → All IsSound items → IdleLaws → view_of items f ≡ w → xs ≡ items → AllZip DrainsTo xs ys → all ≡ ys
+not_moved : (b : Bool) → moved_if b ≡ Idle → b ≡ false
+not_moved true e = cc
+not_moved false e = refl
+
+-- a step that is not enabled changes no channel
+idle_in : (i : ℕ) (x : Step) (ps : List Play) (o : Option Play) → slice_get ps i ≡ o → All IsReached ps → PlayLaws → enabled_in x o ≡ false → step_in i x ps o ≡ ps
+idle_in i x ps None e a law d = refl
+idle_in i x ps (Some p) e a law d =
+    let same : get_or ps i p ≡ p = get_or_from_slice_get ps i p p e in
+    let r : IsReached p = subst IsReached same (a i p (slice_get_within ps i p e)) in
+    ap (λ (q : Play). slice_set ps i q) (idle_step x p r law d ∙ sym same) ∙ set-get_or ps i p
+
+pub world_idle : (xs : List Playing) (f : Bool) (w new : WorldView) (n : ℕ) (x : Step) (m : Moved) → All IsSound xs → PlayLaws → view_of xs f ≡ w → f ≡ false
+    → new ≡ record { plays = world_step n x w.plays; failed = false } → m ≡ moved_if (world_enabled n x w.plays) → m ≡ Idle → new ≡ w
+world_idle xs f w new n x m a law e works d answer idle =
+    let r : All IsReached w.plays = subst (λ (v : WorldView). All IsReached v.plays) e (reached_each xs a) in
+    let W : List Play → Bool → WorldView = λ ps b. record { plays = ps; failed = b } in
+    let same : world_step n x w.plays ≡ w.plays =
+    idle_in (n - 1) x w.plays (slice_get w.plays (n - 1)) refl r law (not_moved (world_enabled n x w.plays) (sym answer ∙ idle)) in
+    d ∙ (ap (λ (ps : List Play). W ps false) same ∙ (ap (λ b. W w.plays b) (sym works ∙ ap (λ (v : WorldView). v.failed) e)))
+
+pub world_drained : (xs ys items all : List Playing) (f : Bool) (w : WorldView) → All IsSound items → PlayLaws → view_of items f ≡ w → xs ≡ items → AllZip DrainsTo xs ys → all ≡ ys
     → AreDrained w.plays (map play_of all)
 world_drained xs ys items all f w a law e d z g =
     let p : map play_of xs ≡ w.plays = ap (λ (zs : List Playing). map play_of zs) d ∙ ap (λ (v : WorldView). v.plays) e in

@@ -8,7 +8,8 @@ use Rattle.nk_world.proofs.Tools.{by_bool}
 use Rattle.nk_world.specs.declared.playing.Playing.{Playing}
 use Rattle.nk_world.specs.Play.{Play, play_step, play_enabled, tried, are_idle, round_steps, round, rounds, IsReached, IsQuiet, either}
 use Rattle.nk_world.specs.Parts.{play_of, IsSound, DrainsTo}
-use Rattle.nk_world.proofs.Idle.{IdleLaws, idle_all, idle_round}
+use Rattle.nk_world.specs.Laws.{PlayLaws}
+use Rattle.nk_world.proofs.Idle.{idle_all, idle_round}
 use Rattle.nk_world.proofs.Falls.{FallLaws}
 use Rattle.nk_world.proofs.Left.{rounds_left, round_less}
 
@@ -42,7 +43,7 @@ moved_not : (b : Bool) → moved_if b ≡ moved_if (not (true && not b))
 moved_not true = refl
 moved_not false = refl
 
-pub moved_more : (xs : List Step) (x : Step) (p q : Play) (m n : Moved) → IsReached p → IdleLaws → q ≡ tried xs p
+pub moved_more : (xs : List Step) (x : Step) (p q : Play) (m n : Moved) → IsReached p → PlayLaws → q ≡ tried xs p
     → m ≡ moved_if (not (are_idle xs p)) → n ≡ moved_if (play_enabled x q) → either m n ≡ moved_if (not (are_idle (xs ++ x ∷ []) p))
 moved_more xs x p q m n r law here before now =
     by_bool (are_idle xs p)
@@ -85,7 +86,7 @@ moved_did true e = cc
 moved_did false e = refl
 
 -- a round was idle: the channel is drained
-pub drains : (first s t : Playing) (m : Moved) → IsReached (play_of s) → IdleLaws → Led (play_of first) (play_of s)
+pub drains : (first s t : Playing) (m : Moved) → IsReached (play_of s) → PlayLaws → Led (play_of first) (play_of s)
     → m ≡ moved_if (not (are_idle round_steps (play_of s))) → m ≡ Idle → IsSound t → play_of t ≡ round (play_of s) → DrainsTo first t
 drains first s t m r law l a idle sound e =
     let q : IsQuiet (play_of s) = moved_idle (are_idle round_steps (play_of s)) (sym idle ∙ a) in
@@ -96,7 +97,7 @@ drains first s t m r law l a idle sound e =
     }
 
 -- a round was not idle: fewer are left
-pub less_left : (p q : Play) (m : Moved) → IsReached p → IdleLaws → FallLaws → m ≡ moved_if (not (are_idle round_steps p)) → m ≡ Did → q ≡ round p → rounds_left q < rounds_left p
+pub less_left : (p q : Play) (m : Moved) → IsReached p → PlayLaws → FallLaws → m ≡ moved_if (not (are_idle round_steps p)) → m ≡ Did → q ≡ round p → rounds_left q < rounds_left p
 less_left p q m r idle law a did e =
     let n : are_idle round_steps p ≡ false = moved_did (are_idle round_steps p) (sym did ∙ a) in
     subst (λ (x : Play). rounds_left x < rounds_left p) (sym e) (round_less p r idle law n)

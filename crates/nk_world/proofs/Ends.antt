@@ -2,6 +2,7 @@
 use Rattle.std.proofs.Common.{◌≡◌, refl, sym, ◌∙◌, ap, subst, Bool, true, false, if◌then◌else◌, List, [], replicate}
 use Rattle.nk_base.specs.declared.message.Entry.{Entry}
 use Rattle.nk_plan.specs.declared.plan.ChannelPlan.{ChannelPlan}
+use Rattle.nk_plan.specs.declared.plan.ListenerKind.{ListenerKind}
 use Rattle.nk_plan.specs.declared.ends.Ending.{Ending}
 use Rattle.nk_plan.specs.declared.ends.Ending.TheVariants.{Stopped, Suspended, Unopened, Going}
 use Rattle.nk_plan.specs.Journal.{first, final, cut}
@@ -18,8 +19,6 @@ use Rattle.nk_sink.specs.Listener.{Listener, ends_of}
 use Rattle.nk_sink.specs.Reached.{IsDrained, ReadersLaw, readers_of, whole_end}
 use Rattle.nk_world.specs.Play.{Play, IsReached, IsQuiet}
 use Rattle.nk_world.specs.End.{end_of, IsEnd}
-use Rattle.nk_world.proofs.Plays.{reached_channel, reached_joined, entries_are}
-use Rattle.nk_world.proofs.Heard.{Heard, heard, good_kind}
 use Rattle.nk_world.proofs.Settled.{settled, pumped}
 
 -- what the layers below say of a channel that was drained
@@ -33,27 +32,27 @@ pub record EndLaws : Type 0 where
   pub closed : ClosedLaw
   pub readers : ReadersLaw
 
-pub ran : (p : Play) → IsReached p → OrderRunsLaw → Run p.plan p.channel.parent.journal p.channel.child.journal p.channel.forwarded
-ran p r law = subst (λ (w : Channel). Run p.plan w.parent.journal w.child.journal w.forwarded) (reached_channel p r) (law p.plan r.steps)
+ran : (p : Play) → IsReached p → OrderRunsLaw → Run p.plan p.channel.parent.journal p.channel.child.journal p.channel.forwarded
+ran p r law = subst (λ (w : Channel). Run p.plan w.parent.journal w.child.journal w.forwarded) r.led (law p.plan r.steps)
 
-pub told : (p : Play) → IsReached p → JoinedLaw → StateLaw → p.channel.child.trace ≡ trace_of p.plan p.channel.child.journal
+-- what the listener was shown is what the child's journal tells
+told : (p : Play) → IsReached p → JoinedLaw → StateLaw → p.listener.entries ≡ trace_of p.plan p.channel.child.journal
 told p r sides law =
-    let j : Joined p.plan p.channel = reached_joined p r sides in
+    let j : Joined p.plan p.channel = subst (λ (w : Channel). Joined p.plan w) r.led (sides p.plan r.steps) in
     let e : state_of p.plan p.channel.child.journal ≡ p.channel.child =
     subst (λ (s : ChildState). state_of p.plan s.journal ≡ s) j.child_is ((law p.plan).0 j.child_steps) in
-    sym (ap (λ (s : ChildState). s.trace) e)
+    r.entries ∙ sym (ap (λ (s : ChildState). s.trace) e)
 
 over : (p : Play) → IsReached p → EndingLaw → IsQuiet p → ending_of p.plan p.channel.child.journal ≡ Going → ⊥
 over p r law q =
     let P : Channel → Type 0 = λ w. IsSettled p.plan w → ending_of p.plan w.child.journal ≡ Going → ⊥ in
-    subst P (reached_channel p r) (law p.plan r.steps r.accepted) (settled p q)
+    subst P r.led (law p.plan r.steps r.accepted) (settled p q)
 
-read : (p : Play) → IsReached p → ReadersLaw → IsQuiet p → ends_of p.listener ≡ replicate (readers_of p.plan.listener) (whole_end p.channel.child.trace)
+read : (p : Play) → IsReached p → ReadersLaw → IsQuiet p → ends_of p.listener ≡ replicate (readers_of p.plan.listener) (whole_end p.listener.entries)
 read p r law q =
-    let h : Heard p.plan.listener p.listener = heard p r in
-    let P : Listener → Type 0 = λ l. IsDrained l → ends_of l ≡ replicate (readers_of p.plan.listener) (whole_end l.entries) in
-    subst P h.led (law p.plan.listener h.steps (good_kind p.plan r.accepted)) (pumped p q)
-    ∙ ap (λ (t : List Entry). replicate (readers_of p.plan.listener) (whole_end t)) (entries_are p r)
+    let P : Listener → Type 0 = λ l. IsDrained l → ends_of l ≡ replicate (readers_of p.listener.kind) (whole_end l.entries) in
+    subst P (sym r.listener.is) (law p.listener.kind r.listener.steps r.listener.good) (pumped p q)
+    ∙ ap (λ (k : ListenerKind). replicate (readers_of k) (whole_end p.listener.entries)) r.kind
 
 -- an ending is one of four
 by_ending : {P : Type 0} (e : Ending) → (e ≡ Stopped → P) → (e ≡ Suspended → P) → (e ≡ Unopened → P) → (e ≡ Going → P) → P
@@ -72,13 +71,13 @@ only_closed false false false e = cc
 closed_trace : (c : ChannelPlan) → c.closed ≡ true → calm_trace c ≡ []
 closed_trace c e = rw e refl
 
-calmed : (p : Play) → IsReached p → EndLaws → IsQuiet p → IsCalm p.plan → p.channel.child.trace ≡ calm_trace p.plan
+calmed : (p : Play) → IsReached p → EndLaws → IsQuiet p → IsCalm p.plan → p.listener.entries ≡ calm_trace p.plan
 calmed p r law q i =
     let c = p.plan in
     let j = p.channel.child.journal in
     let run : Run c p.channel.parent.journal j p.channel.forwarded = ran p r law.orders in
     let calm = law.calm c p.channel.parent.journal j p.channel.forwarded r.accepted i run in
-    let t : p.channel.child.trace ≡ trace_of c j = told p r law.joined law.state in
+    let t : p.listener.entries ≡ trace_of c j = told p r law.joined law.state in
     by_ending (ending_of c j) (λ e. t ∙ calm.0 e) (λ e. absurd (calm.1 e))
     (λ e.
     let closed : c.closed ≡ true = only_closed c.closed _ _ e in
@@ -90,7 +89,7 @@ is_end p r law q =
     let c = p.plan in
     let j = p.channel.child.journal in
     let run : Run c p.channel.parent.journal j p.channel.forwarded = ran p r law.orders in
-    let t : p.channel.child.trace ≡ trace_of c j = told p r law.joined law.state in
+    let t : p.listener.entries ≡ trace_of c j = told p r law.joined law.state in
     record {
       run = run;
       sequential =

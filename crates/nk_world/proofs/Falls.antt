@@ -1,7 +1,6 @@
 -- Each step that is enabled leaves a channel at play less to do, and so does each round in which a step was.
 use Rattle.std.proofs.Common.{ℕ, ◌≡◌, ◌<◌, ◌⊎◌, inl, inr, refl, sym, ◌∙◌, ap, subst, true, false, not, List, [], ◌∷◌, arith}
 use Rattle.nk_plan.specs.declared.step.Step.{Step}
-use Rattle.nk_plan.specs.declared.step.Step.TheVariants.{Act, Verdict, Fetch, Up, Forward, Main, Back, Release, Begin, Finish, Read}
 use Rattle.nk_plan.specs.Channel.{Channel, channel_step}
 use Rattle.nk_plan.specs.Enabled.{channel_enabled}
 use Rattle.nk_sink.specs.Listener.{Listener, read_enabled, read_turn, reads_left}
@@ -11,9 +10,9 @@ use Rattle.nk_drain.specs.Laws.{LeftLaw}
 use Rattle.std.proofs.lemmas.Bool.{and_from}
 use Rattle.nk_world.proofs.Tools.{by_bool}
 use Rattle.nk_world.specs.Play.{Play, play_step, play_enabled, tried, are_idle, round_steps, round, IsReached}
-use Rattle.nk_world.proofs.Plays.{reached_channel, reached_step}
-use Rattle.nk_world.proofs.Heard.{Heard, heard, good_kind}
-use Rattle.nk_world.proofs.Idle.{IdleLaws, idle_step, idle_all}
+use Rattle.nk_world.specs.Laws.{PlayLaws}
+use Rattle.nk_world.proofs.Plays.{by_step, reached_step}
+use Rattle.nk_world.proofs.Idle.{idle_step, idle_all}
 
 -- what the layers below say of a step that is enabled
 pub record FallLaws : Type 0 where
@@ -40,37 +39,30 @@ below_then p q r (inr (e, a)) (inr (d, b)) = inr (e ∙ d, omega arith)
 falls : (x : Step) (p : Play) → IsReached p → LeftLaw → channel_enabled p.plan x p.channel ≡ true → steps_left p.plan (channel_step p.plan x p.channel) < moves_left p
 falls x p r law e =
     let P : Channel → Type 0 = λ w. channel_enabled p.plan x w ≡ true → steps_left p.plan (channel_step p.plan x w) < steps_left p.plan w in
-    subst P (reached_channel p r) (law p.plan r.steps x r.accepted) e
+    subst P r.led (law p.plan r.steps x r.accepted) e
 
 lowers : (reader : ℕ) (p : Play) → IsReached p → LowersLaw → read_enabled reader p.listener ≡ true → reads_left (read_turn reader p.listener) < reads_left p.listener
 lowers reader p r law e =
-    let h : Heard p.plan.listener p.listener = heard p r in
     let P : Listener → Type 0 = λ l. read_enabled reader l ≡ true → reads_left (read_turn reader l) < reads_left l in
-    subst P h.led (law p.plan.listener h.steps reader (good_kind p.plan r.accepted)) e
+    subst P (sym r.listener.is) (law p.listener.kind r.listener.steps reader r.listener.good) e
 
 step_below : (x : Step) (p : Play) → IsReached p → FallLaws → play_enabled x p ≡ true → Below (play_step x p) p
-step_below Act p r law e = inl (falls Act p r law.channel e)
-step_below Verdict p r law e = inl (falls Verdict p r law.channel e)
-step_below Fetch p r law e = inl (falls Fetch p r law.channel e)
-step_below Up p r law e = inl (falls Up p r law.channel e)
-step_below Forward p r law e = inl (falls Forward p r law.channel e)
-step_below Main p r law e = inl (falls Main p r law.channel e)
-step_below Back p r law e = inl (falls Back p r law.channel e)
-step_below Release p r law e = inl (falls Release p r law.channel e)
-step_below (Begin t) p r law e = inl (falls (Begin t) p r law.channel e)
-step_below (Finish t) p r law e = inl (falls (Finish t) p r law.channel e)
-step_below (Read reader) p r law e = inr (refl, lowers reader p r law.listener e)
+step_below x p r law =
+    by_step (λ y. play_enabled y p ≡ true → Below (play_step y p) p)
+    (λ reader e. inr (refl, lowers reader p r law.listener e))
+    (λ y k e. inl (falls y p r law.channel (sym (k.enabled p) ∙ e)))
+    x
 
 -- steps of which none is enabled, or they leave less to do
-steps_below : (xs : List Step) (p : Play) → IsReached p → IdleLaws → FallLaws → (are_idle xs p ≡ true) ⊎ Below (tried xs p) p
+steps_below : (xs : List Step) (p : Play) → IsReached p → PlayLaws → FallLaws → (are_idle xs p ≡ true) ⊎ Below (tried xs p) p
 steps_below [] p r idle law = inl refl
 steps_below (x ∷ xs) p r idle law =
     by_bool (play_enabled x p)
     (λ e.
     let q : Play = play_step x p in
     let b : Below q p = step_below x p r law e in
-    elim (steps_below xs q (reached_step x p r) idle law) [
-      | inl h ↦ inr (subst (λ (s : Play). Below s p) (sym (idle_all xs q (reached_step x p r) idle h)) b)
+    elim (steps_below xs q (reached_step x p r idle) idle law) [
+      | inl h ↦ inr (subst (λ (s : Play). Below s p) (sym (idle_all xs q (reached_step x p r idle) idle h)) b)
       | inr c ↦ inr (below_then (tried xs q) q p c b)
     ])
     (λ e.
@@ -81,5 +73,5 @@ steps_below (x ∷ xs) p r idle law =
     ])
 
 -- a round leaves less to do, unless all is done
-pub round_below : (p : Play) → IsReached p → IdleLaws → FallLaws → are_idle round_steps p ≡ false → Below (round p) p
+pub round_below : (p : Play) → IsReached p → PlayLaws → FallLaws → are_idle round_steps p ≡ false → Below (round p) p
 round_below p r idle law e = elim (steps_below round_steps p r idle law) [ inl h ↦ absurd (cc (e, h)) | inr b ↦ b ]

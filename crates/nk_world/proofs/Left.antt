@@ -3,7 +3,8 @@ use Rattle.std.proofs.Common.{ℕ, zero, suc, ◌≡◌, ◌<◌, inl, inr, refl
 use borrow.Author.Tests.{ltb-true, lt-ltb}
 use Rattle.nk_world.proofs.Tools.{by_bool, le_or_more}
 use Rattle.nk_world.specs.Play.{Play, are_idle, round_steps, round, rounds, IsReached, IsQuiet}
-use Rattle.nk_world.proofs.Idle.{IdleLaws, reached_all}
+use Rattle.nk_world.specs.Laws.{PlayLaws}
+use Rattle.nk_world.proofs.Idle.{reached_all}
 use Rattle.nk_world.proofs.Falls.{FallLaws, moves_left, shows_left, Below, round_below}
 
 -- The count for a channel with so many steps left, whose pumps have less than so much to show. A round that is not idle
@@ -42,7 +43,7 @@ fewer_shows q p n k x y (inr (e, l)) stays = omega arith
 just : (a m : ℕ) → a < suc m → (a < m → ⊥) → a ≡ m
 just a m l stays = elim (le_or_more m a) [ inl x ↦ omega arith | inr x ↦ absurd (stays x) ]
 
-shows_enough : (k n : ℕ) (fewer : Play → ℕ) → IdleLaws → FallLaws → Enough (λ p. moves_left p < n) fewer
+shows_enough : (k n : ℕ) (fewer : Play → ℕ) → PlayLaws → FallLaws → Enough (λ p. moves_left p < n) fewer
     → Enough (λ p. (moves_left p ≡ n) × (shows_left p < k)) (by_shows k n fewer)
 unfolding by_shows
 shows_enough zero n fewer idle law a p r (x, y) = absurd (omega arith)
@@ -51,13 +52,13 @@ shows_enough (suc k) n fewer idle law a p r (x, y) =
     (λ e. rw e e)
     (λ e.
     let q : Play = round p in
-    let s : IsReached q = reached_all round_steps p r in
+    let s : IsReached q = reached_all round_steps p r idle in
     let b : Below q p = round_below p r idle law e in
     rw e
     (chosen (moves_left q) n (fewer q) (by_shows k n fewer q) q (λ l. a q s l)
     (λ stays. shows_enough k n fewer idle law a q s (same_moves q p n x b stays, fewer_shows q p n k x y b stays))))
 
-moves_enough : (n : ℕ) → IdleLaws → FallLaws → Enough (λ p. moves_left p < n) (by_moves n)
+moves_enough : (n : ℕ) → PlayLaws → FallLaws → Enough (λ p. moves_left p < n) (by_moves n)
 unfolding by_moves
 moves_enough zero idle law p r x = absurd (omega arith)
 moves_enough (suc n) idle law p r x =
@@ -69,7 +70,7 @@ moves_enough (suc n) idle law p r x =
 pub enough : Play → ℕ
 enough p = by_moves (suc (moves_left p)) p
 
-pub enough_is : (p : Play) → IsReached p → IdleLaws → FallLaws → IsQuiet (rounds (enough p) p)
+pub enough_is : (p : Play) → IsReached p → PlayLaws → FallLaws → IsQuiet (rounds (enough p) p)
 unfolding enough
 enough_is p r idle law = moves_enough (suc (moves_left p)) idle law p r (omega arith)
 
@@ -96,7 +97,7 @@ less_by zero b p e x y = absurd (cc (e, x))
 less_by (suc a) b p e x y = let d : left_of a (round p) ≡ left_of b (round p) = left_same a b (round p) x y in rw e (omega arith)
 
 -- a round in which a step was not idle is one of them
-pub round_less : (p : Play) → IsReached p → IdleLaws → FallLaws → are_idle round_steps p ≡ false → rounds_left (round p) < rounds_left p
+pub round_less : (p : Play) → IsReached p → PlayLaws → FallLaws → are_idle round_steps p ≡ false → rounds_left (round p) < rounds_left p
 unfolding rounds_left
 round_less p r idle law e =
-    less_by (enough p) (enough (round p)) p e (enough_is p r idle law) (enough_is (round p) (reached_all round_steps p r) idle law)
+    less_by (enough p) (enough (round p)) p e (enough_is p r idle law) (enough_is (round p) (reached_all round_steps p r idle) idle law)

@@ -1,4 +1,3 @@
-pub mod Bounds
 pub mod Channels
 pub mod Drains
 pub mod Ends
@@ -14,5 +13,4 @@ pub mod Plays
 pub mod Rows
 pub mod Settled
 pub mod Tools
-pub mod Traces
 pub mod Worlds

@@ -4,7 +4,8 @@ use Rattle.std.specs.List.{All, AllZip}
 use Rattle.std.proofs.lemmas.List.Elements.{All-nil, All-cons, All-head, All-tail}
 use Rattle.nk_world.specs.Play.{Play, round, rounds, IsReached, IsQuiet, IsDrained}
 use Rattle.nk_world.specs.World.{world_round, world_rounds, AreDrained}
-use Rattle.nk_world.proofs.Idle.{IdleLaws, enough_rounds}
+use Rattle.nk_world.specs.Laws.{PlayLaws}
+use Rattle.nk_world.proofs.Idle.{enough_rounds}
 
 rounds_apart : (n : ℕ) (p : Play) (ps : List Play) → world_rounds n (p ∷ ps) ≡ rounds n p ∷ world_rounds n ps
 rounds_apart zero p ps = refl
@@ -20,7 +21,7 @@ record Settles (ps qs : List Play) : Type 0 where
   led : (k : ℕ) → count ≤ k → world_rounds k ps ≡ qs
   quiet : All IsQuiet qs
 
-settles : (ps qs : List Play) → All IsReached ps → IdleLaws → AllZip IsDrained ps qs → Settles ps qs
+settles : (ps qs : List Play) → All IsReached ps → PlayLaws → AllZip IsDrained ps qs → Settles ps qs
 settles [] [] r law d = record { count = 0; led = λ k l. no_rounds k; quiet = All-nil IsQuiet }
 settles [] (q ∷ qs) r law d = absurd d
 settles (p ∷ ps) [] r law d = absurd d
@@ -37,7 +38,7 @@ settles (p ∷ ps) (q ∷ qs) r law (d, ds) =
       quiet = All-cons IsQuiet q qs d.2 s.quiet;
     }
 
-pub drained_apart : (ps qs : List Play) → All IsReached ps → IdleLaws → AllZip IsDrained ps qs → AreDrained ps qs
+pub drained_apart : (ps qs : List Play) → All IsReached ps → PlayLaws → AllZip IsDrained ps qs → AreDrained ps qs
 drained_apart ps qs r law d =
     let s : Settles ps qs = settles ps qs r law d in
     record { count = s.count; led = s.led s.count (omega arith); quiet = s.quiet }
@@ -54,7 +55,7 @@ together n (p ∷ ps) (q ∷ qs) e h =
     let there : world_rounds n ps ≡ qs = cc in
     ((n, here, All-head IsQuiet q qs h), together n ps qs there (All-tail IsQuiet q qs h))
 
-pub one_world : (ps qs qs' : List Play) → All IsReached ps → IdleLaws → AreDrained ps qs → AreDrained ps qs' → qs ≡ qs'
+pub one_world : (ps qs qs' : List Play) → All IsReached ps → PlayLaws → AreDrained ps qs → AreDrained ps qs' → qs ≡ qs'
 one_world ps qs qs' r law d d' =
     let s : Settles ps qs = settles ps qs r law (together d.count ps qs d.led d.quiet) in
     let s' : Settles ps qs' = settles ps qs' r law (together d'.count ps qs' d'.led d'.quiet) in

@@ -1,4 +1,5 @@
--- What a channel leaves, and what is promised of it once it was drained. This project's own.
+-- What a channel leaves, and what is promised of it once it was drained. Its trace is what its listener was shown. This
+-- project's own.
 use Rattle.std.specs.Prelude.{◌≡◌, replicate}
 use Rattle.nk_plan.specs.declared.plan.ChannelPlan.{ChannelPlan}
 use Rattle.nk_plan.specs.declared.ends.ChannelEnd.{ChannelEnd}
@@ -14,7 +15,7 @@ use Rattle.nk_world.specs.Play.{Play}
 
 abbrev pub end_of : Play → ChannelEnd
 end_of p = record {
-  trace = p.channel.child.trace;
+  trace = p.listener.entries;
   readers = ends_of p.listener;
   ending = ending_of p.plan p.channel.child.journal;
   parent = p.channel.parent.journal;

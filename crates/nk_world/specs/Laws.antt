@@ -1,10 +1,23 @@
--- The laws of the drain, over every list of channels at play. This project's own.
+-- The laws of the drain, over every list of channels at play, and what they rest on. This project's own.
 use Rattle.std.specs.Prelude.{ℕ, ◌≡◌, List, map, All}
 use Rattle.nk_plan.specs.declared.plan.ChannelPlan.{ChannelPlan}
 use Rattle.nk_plan.specs.declared.step.Step.{Step}
 use Rattle.nk_plan.specs.Accepted.{Accepted}
+use Rattle.nk_channel.specs.Laws as channels
+use Rattle.nk_drain.specs.Laws as drain
+use Rattle.nk_sink.specs.Reached as sink
 use Rattle.nk_world.specs.Play.{Play, new_play, IsReached}
 use Rattle.nk_world.specs.World.{world_step, AreDrained}
+
+-- what the layers below say of a step: of the channel, told by its parts; of one that is not enabled; and of a read that is not
+pub record PlayLaws : Type 0 where
+  pub step : channels.StepLaw
+  pub enabled : channels.EnabledLaw
+  pub grows : channels.GrowsLaw
+  pub roomy : channels.RoomyLaw
+  pub shown : channels.ShownLaw
+  pub idle : drain.IdleLaw
+  pub reads : sink.IdleLaw
 
 -- the channels of accepted plans are such as steps lead to, and stay so
 abbrev pub NewLaw : Type 0

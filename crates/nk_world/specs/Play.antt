@@ -10,9 +10,10 @@ use Rattle.nk_plan.specs.declared.plan.ChannelPlan.{ChannelPlan}
 use Rattle.nk_plan.specs.declared.step.Step.{Step}
 use Rattle.nk_plan.specs.declared.step.Step.TheVariants.{Act, Verdict, Fetch, Up, Forward, Main, Back, Release, Begin, Finish, Read}
 use Rattle.nk_plan.specs.Accepted.{Accepted}
-use Rattle.nk_plan.specs.Channel.{Channel, new_channel, channel_step}
+use Rattle.nk_plan.specs.Channel.{Channel, new_channel, channel_step, channel_after}
 use Rattle.nk_plan.specs.Enabled.{channel_enabled}
 use Rattle.nk_sink.specs.Listener.{Listener, new_listener, entered_all, read_turn, read_enabled}
+use Rattle.nk_sink.specs.Reached as sink
 
 pub record Play : Type 0 where
   pub plan : ChannelPlan
@@ -61,16 +62,16 @@ play_enabled Release p = channel_enabled p.plan Release p.channel
 play_enabled (Begin t) p = channel_enabled p.plan (Begin t) p.channel
 play_enabled (Finish t) p = channel_enabled p.plan (Finish t) p.channel
 
--- after these steps, of which the newest stands first
-abbrev pub play_after : ChannelPlan → List Step → Play
-play_after c [] = new_play c
-play_after c (x ∷ xs) = play_step x (play_after c xs)
-
--- the plan is one that `ChannelPlan::new` accepts, and some steps lead here
+-- The plan is one that `ChannelPlan::new` accepts, and some steps lead to the channel. The listener is one of the plan's kind that
+-- its own calls lead to, and was shown what the child has shown. The channel's steps and the listener's calls need no order
+-- that made both.
 pub record IsReached (p : Play) : Type 0 where
   pub accepted : Accepted p.plan
   pub steps : List Step
-  pub led : play_after p.plan steps ≡ p
+  pub led : channel_after p.plan steps ≡ p.channel
+  pub kind : p.listener.kind ≡ p.plan.listener
+  pub listener : sink.IsReached p.listener
+  pub entries : p.listener.entries ≡ p.channel.child.trace
 
 -- A ROUND
 

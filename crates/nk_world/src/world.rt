@@ -2,19 +2,20 @@
 
 ghost use Rattle.std.specs.Prelude.{◌≡◌, ◌≤◌, ◌++◌, ◌∷◌, [], length, map, false, true, All, IfOk, OnOk, OnErr};
 ghost use Rattle.std.specs.List.{AllZip};
+ghost use Rattle.nk_base.specs.declared.status.Moved.TheVariants as moved;
 ghost use Rattle.nk_plan.specs.Accepted.{Accepted};
 ghost use Rattle.nk_child.specs.Moved.{moved_if};
 ghost use Rattle.nk_world.specs.End.{end_of, IsEnd};
-ghost use Rattle.nk_world.specs.Parts.{play_of, new_parts, IsSound, DrainsTo};
+ghost use Rattle.nk_world.specs.Parts.{play_of, new_playing, IsSound, DrainsTo};
 ghost use Rattle.nk_world.specs.Play.{IsQuiet};
 ghost use Rattle.nk_world.specs.World.{new_world, world_step, world_enabled, plans_of, AreDrained};
 
+use crate::laws::play_law;
 use crate::playing::Playing;
 use nk_base::{Memory, Moved};
-use nk_drain::idle_law;
 use nk_laws::{calm_law, ending_law, merge_law, moves_law, order_law, state_law};
 use nk_plan::{Ends, Plans, Step};
-use nk_sink::{readers_law, reads_law};
+use nk_sink::readers_law;
 use std::alloc::Global;
 use std::marker::Model;
 
@@ -62,11 +63,13 @@ impl World {
         requires last { channel ≤ length self.old.plays }
         ensures state { OnOk result (self.new ≡ record { plays = world_step channel step self.old.plays; failed = false }) }
         ensures answer { IfOk result (λ r. r ≡ moved_if (world_enabled channel step self.old.plays)) }
+        ensures idle { IfOk result (λ r. r ≡ moved.Idle → self.new ≡ self.old) }
         ensures plans { OnOk result (plans_of self.new ≡ plans_of self.old) }
         ensures works { OnOk result (self.old.failed ≡ false) }
         ensures err { OnErr result (self.new.failed ≡ true) }
         ensures count { length self.new.plays ≡ length self.old.plays }
     {
+        play_law();
         if self.failed {
             return Err(Memory);
         }
@@ -89,8 +92,7 @@ impl World {
         ensures err { OnErr result (self.new.failed ≡ true) }
         ensures count { length self.new.plays ≡ length self.old.plays }
     {
-        idle_law();
-        reads_law();
+        play_law();
         if self.failed {
             return Err(Memory);
         }
@@ -103,7 +105,8 @@ impl World {
         }
     }
 
-    /// What each channel leaves, in their order; and once the world was drained, all that is promised of it.
+    /// What each channel leaves, in their order, with what its listener was shown; and once the world was drained, all
+    /// that is promised of it.
     pub fn into_ends(self) -> Result<Ends, Memory>
         ensures ends { IfOk result (λ r. r ≡ map end_of self.plays) }
         ensures works { OnOk result (self.failed ≡ false) }
@@ -131,7 +134,7 @@ impl World {
 /// The channels of these plans, before their first step.
 fn play_all(alloc: Global, plans: &Plans) -> Result<Vec<Playing>, Memory>
     requires { All Accepted plans.now }
-    ensures { IfOk result (λ r. r.items ≡ map new_parts plans.now) }
+    ensures { IfOk result (λ r. r.items ≡ map new_playing plans.now) }
 {
     let mut channels = Vec::new(alloc);
     for plan in plans.as_slice() {
@@ -152,7 +155,6 @@ fn add(channels: &mut Vec<Playing>, channel: Playing) -> Result<(), Memory>
 
 /// What each channel leaves.
 fn take_ends(alloc: Global, channels: Vec<Playing>) -> Result<Ends, Memory>
-    requires { All IsSound channels.items }
     ensures { IfOk result (λ r. r ≡ map end_of (map play_of channels.items)) }
 {
     let mut ends = Ends::new(alloc);

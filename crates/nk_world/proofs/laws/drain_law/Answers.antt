@@ -6,9 +6,7 @@ use Rattle.nk_world.proofs.laws.drain_law.Goals as goal
 pub returns : goal.returns
 returns c = record {
   new = new_law;
-  step = step_law;
-  ends =
-      λ ps a. ends_law ps a (record { channel = c.idle_law.ensures; listener = c.reads_law.ensures.idle })
-      (record { channel = c.falls_law.ensures.left; listener = c.reads_law.ensures.lowers });
-  one = λ ps qs rs a d e. one_world ps qs rs a (record { channel = c.idle_law.ensures; listener = c.reads_law.ensures.idle }) d e;
+  step = step_law c.play_law.ensures;
+  ends = λ ps a. ends_law ps a c.play_law.ensures (record { channel = c.falls_law.ensures.left; listener = c.reads_law.ensures.lowers });
+  one = λ ps qs rs a d e. one_world ps qs rs a c.play_law.ensures d e;
 }

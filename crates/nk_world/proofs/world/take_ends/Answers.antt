@@ -1,14 +1,11 @@
 -- One channel more has left its end.
 use Rattle.std.proofs.Common.{◌++◌, ◌∷◌, [], ◌∙◌, sym, ap, List, append_assoc}
-use Rattle.std.proofs.lemmas.List.Elements.{All-rest}
 use Rattle.nk_world.specs.declared.playing.Playing.{Playing}
-use Rattle.nk_world.specs.Parts.{IsSound}
 use Rattle.nk_world.proofs.Channels.{ends_more}
 use Rattle.nk_world.proofs.world.take_ends.Goals as goal
 
 pub loop-channel-preserved : goal.loop-channel-preserved
 loop-channel-preserved c = record {
-  sound = All-rest IsSound c.in-Some.channel c.next.new.self.rest.items c.loop-channel.channel-iterator.rest.items c.in-Some.ensures.steps.0 c.loop-channel.invariant.sound;
   all =
       append_assoc c.loop-channel.yielded (c.in-Some.channel ∷ []) c.next.new.self.rest.items
       ∙ (ap (λ (xs : List Playing). c.loop-channel.yielded ++ xs) (sym c.in-Some.ensures.steps.0) ∙ c.loop-channel.invariant.all);

@@ -11,7 +11,7 @@ pub loop-smaller : goal.loop-smaller
 loop-smaller c =
     let p : Play = play_of c.loop.self in
     less_left p (play_of c.try_all.new.self) c.in_ok-try_all.field-0 c.loop.invariant.sound.reached
-    (record { channel = c.idle_law.ensures; listener = c.reads_law.ensures.idle })
+    c.play_law.ensures
     (record { channel = c.falls_law.ensures.left; listener = c.reads_law.ensures.lowers })
     (c.in_ok-try_all.ensures.answer ∙ ap (λ (xs : List Step). moved_if (not (are_idle xs p))) c.round_steps.ensures)
     c.in-Did.is
@@ -31,7 +31,7 @@ pub returns-in-Idle : goal.returns-in-Idle
 returns-in-Idle c =
     let p : Play = play_of c.loop.self in
     drains c.args.self.now c.loop.self c.try_all.new.self c.in_ok-try_all.field-0 c.loop.invariant.sound.reached
-    (record { channel = c.idle_law.ensures; listener = c.reads_law.ensures.idle })
+    c.play_law.ensures
     c.loop.invariant.led
     (c.in_ok-try_all.ensures.answer ∙ ap (λ (xs : List Step). moved_if (not (are_idle xs p))) c.round_steps.ensures)
     c.in-Idle.is c.in_ok-try_all.ensures.sound

@@ -1,19 +1,23 @@
--- The parts fit together again.
-use Rattle.nk_plan.specs.declared.step.Step.TheVariants as step
-use Rattle.std.proofs.lemmas.Result.{on_ok_weaker}
-use Rattle.std.proofs.Common.{◌≡◌}
-use Rattle.nk_world.specs.Play.{play_step}
-use Rattle.nk_world.specs.Parts.{play_of, parts_of, IsSound}
-use Rattle.nk_world.proofs.Moves.{sound_parts, advanced}
+-- The channel, or its listener, has made its step.
+use Rattle.nk_world.proofs.Moves.{has_room, stepped, turned}
 use Rattle.nk_world.proofs.playing.Playing.step.Goals as goal
+
+pub advance-requires : goal.advance-requires
+advance-requires c = has_room c.args.step c.args.self.now c.requires c.play_law.ensures
 
 pub returns-in-Read-clause-sound : goal.returns-in-Read-clause-sound
 returns-in-Read-clause-sound c =
-    on_ok_weaker {P = c.read.new.self ≡ parts_of (play_step (step.Read c.in-Read.reader) (play_of c.args.self.now))} {Q = IsSound c.read.new.self} c.read.result
-    (λ e. sound_parts c.args.self.now c.read.new.self (step.Read c.in-Read.reader) c.requires e) c.read.ensures.state
+    (turned c.read.result c.in-Read.reader c.args.self.now c.read.new.self c.requires c.play_law.ensures c.read.ensures.ok c.read.ensures.answer).sound
+
+pub returns-in-Read-clause-state : goal.returns-in-Read-clause-state
+returns-in-Read-clause-state c =
+    rw c.in-Read.is (turned c.read.result c.in-Read.reader c.args.self.now c.read.new.self c.requires c.play_law.ensures c.read.ensures.ok c.read.ensures.answer).state
+
+pub returns-in-Read-clause-answer : goal.returns-in-Read-clause-answer
+returns-in-Read-clause-answer c =
+    rw c.in-Read.is (turned c.read.result c.in-Read.reader c.args.self.now c.read.new.self c.requires c.play_law.ensures c.read.ensures.ok c.read.ensures.answer).answer
 
 pub returns-in_default : goal.returns-in_default
 returns-in_default c =
-    let k = advanced c.advance.result c.args.step c.args.self.now c.advance.new.self c.in_default.not-Read c.requires
-    (record { channel = c.idle_law.ensures; listener = c.reads_law.ensures.idle }) c.advance.ensures.state c.advance.ensures.answer in
+    let k = stepped c.advance.result c.args.step c.args.self.now c.advance.new.self c.in_default.not-Read c.requires c.play_law.ensures c.advance.ensures.state c.advance.ensures.answer in
     record { sound = k.sound; state = k.state; answer = k.answer }

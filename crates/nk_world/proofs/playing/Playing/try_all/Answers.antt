@@ -25,7 +25,7 @@ loop-step-preserved c =
       moved =
           c.either-moved.ensures
           ∙ (moved_more xs x p (play_of c.loop-step.self) c.loop-step.moved c.in_ok-step.field-0 c.requires.reached
-          (record { channel = c.idle_law.ensures; listener = c.reads_law.ensures.idle })
+          c.play_law.ensures
           c.loop-step.invariant.state c.loop-step.invariant.moved c.in_ok-step.ensures.answer
           ∙ ap (λ (ys : List Step). moved_if (not (are_idle ys p))) (sym more));
     }

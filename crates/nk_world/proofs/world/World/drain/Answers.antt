@@ -15,12 +15,12 @@ invariant_of-self c =
 pub returns-in-Ok-clause-drained : goal.returns-in-Ok-clause-drained
 returns-in-Ok-clause-drained c =
     world_drained c.deref_mut.result.now c.drain_all.new.channels c.self.inside.channels.items _ c.self.inside.failed c.args.self.now (c.self.invariant c.if-self.false)
-    (record { channel = c.idle_law.ensures; listener = c.reads_law.ensures.idle }) c.self.view_is c.deref_mut.ensures.value c.in-Ok.ensures
+    c.play_law.ensures c.self.view_is c.deref_mut.ensures.value c.in-Ok.ensures
     (whole c.deref_mut.result.now c.drain_all.new.channels c.self.inside.channels.items c.self.inside.channels.len c.in-Ok.ensures c.deref_mut.ensures.value c.deref_mut.ensures.len)
 
 pub returns-in-Ok-clause-plans : goal.returns-in-Ok-clause-plans
 returns-in-Ok-clause-plans c =
     drained_plans c.args.self.now.plays _
     (world_drained c.deref_mut.result.now c.drain_all.new.channels c.self.inside.channels.items _ c.self.inside.failed c.args.self.now (c.self.invariant c.if-self.false)
-    (record { channel = c.idle_law.ensures; listener = c.reads_law.ensures.idle }) c.self.view_is c.deref_mut.ensures.value c.in-Ok.ensures
+    c.play_law.ensures c.self.view_is c.deref_mut.ensures.value c.in-Ok.ensures
     (whole c.deref_mut.result.now c.drain_all.new.channels c.self.inside.channels.items c.self.inside.channels.len c.in-Ok.ensures c.deref_mut.ensures.value c.deref_mut.ensures.len))

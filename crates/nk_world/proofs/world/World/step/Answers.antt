@@ -3,7 +3,7 @@ use Rattle.std.proofs.Common.{◌-◌, ◌∙◌, ap}
 use Rattle.std.proofs.lemmas.List.Elements.{All-set}
 use Rattle.nk_world.specs.Parts.{IsSound}
 use Rattle.nk_world.specs.World.{WorldView, plans_of}
-use Rattle.nk_world.proofs.Channels.{at_place, world_stepped, world_answered, stepped_plans}
+use Rattle.nk_world.proofs.Channels.{at_place, world_stepped, world_answered, world_idle, stepped_plans}
 use Rattle.nk_world.proofs.world.World.step.Goals as goal
 
 pub invariant_of-self : goal.invariant_of-self
@@ -21,6 +21,17 @@ returns-in-Ok-clause-answer c =
     world_answered c.self.inside.channels.items c.self.inside.failed c.args.self.now c.args.channel c.index_mut.result.now c.args.step c.in-Ok.moved c.self.view_is
     (at_place c.self.inside.channels.items c.self.inside.failed c.args.self.now c.args.channel c.index_mut.result.now c.self.view_is c.requires.first c.requires.last c.index_mut.ensures.value)
     c.in-Ok.ensures.answer
+
+pub returns-in-Ok-clause-idle : goal.returns-in-Ok-clause-idle
+returns-in-Ok-clause-idle c = λ idle.
+    let there =
+    at_place c.self.inside.channels.items c.self.inside.failed c.args.self.now c.args.channel c.index_mut.result.now c.self.view_is c.requires.first c.requires.last c.index_mut.ensures.value in
+    world_idle c.self.inside.channels.items c.self.inside.failed c.args.self.now _ c.args.channel c.args.step c.in-Ok.moved (c.self.invariant c.if-self.false) c.play_law.ensures
+    c.self.view_is c.if-self.false
+    (world_stepped c.self.inside.channels.items c.self.inside.failed c.args.self.now c.args.channel c.index_mut.result.now c.step.new.self c.args.step c.self.view_is c.if-self.false there
+    c.in-Ok.ensures.state)
+    (world_answered c.self.inside.channels.items c.self.inside.failed c.args.self.now c.args.channel c.index_mut.result.now c.args.step c.in-Ok.moved c.self.view_is there c.in-Ok.ensures.answer)
+    idle
 
 pub returns-in-Ok-clause-plans : goal.returns-in-Ok-clause-plans
 returns-in-Ok-clause-plans c =

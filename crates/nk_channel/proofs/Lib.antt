@@ -1,0 +1,5 @@
+pub mod Enabled
+pub mod Lists
+pub mod Little
+pub mod Proved
+pub mod Steps
