@@ -17,7 +17,6 @@ use Rattle.nk_plan.specs.Parent.{ParentState, parent_step}
 use Rattle.nk_plan.specs.Child.{ChildState, child_step}
 use Rattle.nk_plan.specs.Channel.{Channel}
 use Rattle.nk_plan.specs.Enabled.{child_enabled, parent_enabled, channel_enabled}
-use Rattle.nk_parent.specs.Views.{added}
 use Rattle.nk_half_laws.specs.Growth.{Adds, GrowthLaw}
 use Rattle.nk_half_laws.specs.Falls.{ChildIdleLaw, FetchIdleLaw}
 use Rattle.nk_channel.specs.Parts.{Parts, parts_of, child_turned, turned, fetched, up_taken, moved_on, main_taken, back_taken, parts_step, parts_enabled, shown_by}

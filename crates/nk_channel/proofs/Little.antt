@@ -1,5 +1,5 @@
 -- What both halves of a channel send and show is little, so what is on the way is.
-use Rattle.std.proofs.Common.{ℕ, ◌≡◌, ◌+◌, ◌-◌, ◌*◌, ◌<◌, ◌≤◌, ◌^◌, subst, List, length, take, drop, arith}
+use Rattle.std.proofs.Common.{◌+◌, ◌*◌, ◌<◌, ◌≤◌, ◌^◌, subst, List, length, take, arith}
 use Rattle.std.proofs.lemmas.List.{length-take, length-drop}
 use Rattle.nk_plan.specs.declared.plan.ChannelPlan.{ChannelPlan}
 use Rattle.nk_plan.specs.declared.step.Step.{Step}

@@ -1,7 +1,7 @@
 -- A reader of a lent pipe is the stream that it is said to be.
-use Rattle.std.proofs.Common.{◌≡◌, ℕ, zero, suc, ◌+◌, ◌-◌, ◌<◌, ◌≤◌, ◌==◌, Bool, true, false, List, [], ◌∷◌, ◌++◌, length, take, drop, min, replicate, Option, Some, None, Result, Ok, Err, refl, sym, ap, subst, ◌∙◌, arith, drop-drop, if◌then◌else◌}
-use Rattle.std.specs.Prelude.{nat_le, slice_get, slice_set, IsSome, OnOk, OnErr}
-use Rattle.std.proofs.lemmas.List.{length-append, length-take, length-drop, length-replicate, take_at, take_all, drop_all, drop_min}
+use Rattle.std.proofs.Common.{◌≡◌, ℕ, zero, suc, ◌+◌, ◌-◌, ◌≤◌, ◌==◌, Bool, true, false, List, [], ◌∷◌, ◌++◌, length, take, drop, min, replicate, Option, Some, None, Result, Ok, Err, refl, sym, ap, subst, ◌∙◌, arith, drop-drop, if◌then◌else◌}
+use Rattle.std.specs.Prelude.{slice_get, slice_set, IsSome, OnOk, OnErr}
+use Rattle.std.proofs.lemmas.List.{length-take, length-drop, length-replicate, take_at, take_all, drop_all, drop_min}
 use Rattle.std.proofs.lemmas.Bool.Decides.{nat_tests}
 use Rattle.nk_base.specs.declared.status.Status.{Status}
 use Rattle.nk_base.specs.Status.{stream_closed, is_failure}
@@ -10,12 +10,11 @@ use Rattle.nk_pipe.specs.declared.answer.Read.TheVariants as given
 use Rattle.nk_pipe.specs.declared.answer.NoReader.{NoReader}
 use Rattle.nk_pipe.specs.declared.answer.Write.{Write}
 use Rattle.nk_base.specs.declared.status.Memory.{Memory}
-use Rattle.nk_pipe.specs.Pipe.{Pipe, Reader, numbered, with_numbered, handed, end_answer, open_answer, read_answer, moved, read_from, written_to, kept_status, closed_with as reader_closed, close_open, without_reader}
-use Rattle.nk_pipe.specs.Kept.{Kept, Stands, ReachesBy, Reaches, whole}
-use Rattle.nk_pump.specs.declared.stream.Read.{Read as Shown}
+use Rattle.nk_pipe.specs.Pipe.{Pipe, Reader, numbered, with_numbered, handed, end_answer, open_answer, read_answer, moved, read_from, written_to, kept_status, without_reader}
+use Rattle.nk_pipe.specs.Kept.{Kept, Stands, ReachesBy, Reaches}
 use Rattle.nk_pump.specs.declared.stream.Read.TheVariants as shown
-use Rattle.nk_pump.specs.Stream.{Stream, StreamEnd, Open, Good, Failed, answer_of, read_leaves, closed_with}
-use Rattle.nk_sink.specs.Listener.{end_of, stream_by, stream_at, stream_of}
+use Rattle.nk_pump.specs.Stream.{Stream, Good, Failed, answer_of, read_leaves, closed_with}
+use Rattle.nk_sink.specs.Listener.{end_of, stream_by, stream_at}
 use Rattle.nk_sink.specs.Lent.{some_whole, stream_in, IsThere, read_shown}
 
 pub stands_whole : (k : Kept) → Stands k (some_whole k)

@@ -16,11 +16,11 @@ use Rattle.nk_pipe.specs.Kept.{Kept, Stands, count}
 use Rattle.nk_pump.specs.Shown.{Shown}
 use Rattle.nk_sink.specs.declared.feed.Feed.{Feed}
 use Rattle.nk_sink.specs.declared.writer.Writer.{Writer}
-use Rattle.nk_sink.specs.Listener.{Piped, Listener, flowed, fed, if_piped, entered, read_turn, piped_enabled, moved_if, body_of, stop_of, pump_of, read_by, ends_by, ends_at}
+use Rattle.nk_sink.specs.Listener.{Piped, Listener, flowed, fed, if_piped, entered, read_turn, piped_enabled, moved_if, body_of, stop_of, pump_of, read_by, ends_by}
 use Rattle.nk_sink.specs.Reached.{IsReached, ListenerView, Enter, Turn}
 use Rattle.nk_sink.specs.Held.{IsPiped}
 use Rattle.nk_sink.specs.Fed.{pipe_in, piped_with, IsWithin, IsOpenAt, IsAt}
-use Rattle.nk_sink.specs.Sunk.{piped_in, listener_of, ends_in, IsFed, IsFedIn, IsPipedIn, IsListening}
+use Rattle.nk_sink.specs.Sunk.{piped_in, listener_of, IsFed, IsFedIn, IsPipedIn, IsListening}
 use Rattle.nk_sink.proofs.Flowing.{flowed_same}
 use Rattle.nk_sink.proofs.Feeding.{body_behind, stop_behind, body_append, stop_append}
 use Rattle.nk_sink.proofs.Pouring.{stands_count}
@@ -213,8 +213,3 @@ ends_push before now after ss s bytes status b t is pushed =
     ∙ ap (λ es. es ++ (record { bytes = s.bytes; status = s.stop }) ∷ []) is
     ∙ append_assoc before (ends_by ss) ((record { bytes = s.bytes; status = s.stop }) ∷ [])
     ∙ ap (λ es. before ++ es) (sym (ends_more ss s))
-
--- what the pumps have shown is what the readers have
-pub ends_are : (es : List Entry) (f : Option Feed) → ends_in f ≡ ends_at (piped_in es f)
-ends_are es None = refl
-ends_are es (Some f) = refl

@@ -1,5 +1,5 @@
 -- A read of the reader is that of its stream.
-use Rattle.std.proofs.Common.{◌≡◌, ◌∙◌, sym, ap, length}
+use Rattle.std.proofs.Common.{◌∙◌, sym, ap, length}
 use Rattle.nk_pump.specs.Stream.{Stream}
 use Rattle.nk_sink.proofs.Lending.{stands_whole, there, answer_is, bytes_are, read_there, read_is, no_err}
 use Rattle.nk_sink.proofs.pipe_reader.PipeReaderPumpStream.read_into.Goals as goal
