@@ -1,2 +1,3 @@
 mod HeadFields
 mod OutLists
+mod Parts

@@ -3,6 +3,7 @@ pub mod Growing
 pub mod HeadAnswers
 pub mod Heads
 pub mod Hold
+pub mod Lists
 pub mod Outs
 pub mod Pieces
 pub mod Queue

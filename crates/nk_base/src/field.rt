@@ -1,12 +1,13 @@
 // Header fields and the head of a response. After Firefox's nsHttpHeaderArray and nsHttpResponseHead in outline; the
 // lengths, and names in lower case only, are this project's own.
 
-ghost use Rattle.std.specs.Prelude.{◌≡◌, ◌++◌, ◌∷◌, ◌<◌, ◌↔◌, [], length, slice_get, IsTrue, IfOk, OnOk, OnErr, Some};
+ghost use Rattle.std.specs.Prelude.{◌≡◌, ◌↔◌, IsTrue, IfOk};
 ghost use Rattle.std.specs.List.{list_all};
 ghost use Rattle.nk_base.specs.Fields.{is_name_byte, is_value_byte, is_space, is_good_name, is_good_value, is_good_field, are_good_fields};
 ghost use Rattle.nk_base.specs.Heads.{is_status_code};
 ghost use Rattle.nk_base.specs.HeadAnswers.{bad_field, head_answer};
 
+use crate::list::{Share, Shared};
 use crate::status::Memory;
 use bytes::Bytes;
 use http::StatusCode;
@@ -190,137 +191,66 @@ pub struct Field {
 }
 
 impl Field {
-    /// An equal field over the same bytes.
-    pub fn share(&self) -> Result<Field, Memory>
-        ensures { IfOk result (λ r. r ≡ self.now) }
-    {
-        let name = self.name.share()?;
-        let value = self.value.share()?;
-        Ok(Field { name, value })
-    }
-
     /// Whether its name and its value are good.
     pub fn is_good(&self) -> bool
         ensures { result ≡ is_good_field self.now }
     {
         self.name.is_good() && self.value.is_good()
     }
+}
 
-    /// Whether the two have the same name and the same value.
-    pub fn same(&self, other: &Field) -> bool
-        ensures { IsTrue result ↔ (self.now ≡ other.now) }
-    {
+impl Share for Field {
+    fn shared(&self) -> Result<Field, Memory> {
+        let name = self.name.share()?;
+        let value = self.value.share()?;
+        Ok(Field { name, value })
+    }
+
+    fn is(&self, other: &Field) -> bool {
         self.name.same(&other.name) && self.value.same(&other.value)
     }
 }
 
 /// A list of header fields, in order.
-#[derive(Drop)]
-pub struct Fields {
-    fields: Vec<Field>,
-}
+pub type Fields = Shared<Field>;
 
-impl Model for Fields {
-    ghost use Rattle.std.specs.Prelude.{List};
-    ghost use Rattle.nk_base.specs.declared.field.Field.{Field};
-
-    ghost Value = { List Field };
-
-    ghost view = { λ s. s.fields.items };
-}
-
-impl Fields {
+impl Shared<Field> {
     /// The most fields of a head, and the most trailers of a body.
     pub const MOST: usize = 64;
-
-    /// The empty list.
-    pub fn new(alloc: Global) -> Fields
-        ensures { result ≡ [] }
-    {
-        Fields {
-            fields: Vec::new(alloc),
-        }
-    }
-
-    /// Adds a field behind the list.
-    pub fn push(&mut self, item: Field) -> Result<(), Memory>
-        ensures ok { OnOk result (self.new ≡ self.old ++ item ∷ []) }
-        ensures err { OnErr result (self.new ≡ self.old) }
-    {
-        match self.fields.push(item) {
-            Ok(()) => Ok(()),
-            Err(_) => Err(Memory),
-        }
-    }
-
-    /// The number of fields.
-    pub fn len(&self) -> usize
-        ensures { result ≡ length self.now }
-    {
-        self.fields.len()
-    }
-
-    /// The field at i, counted from 0.
-    pub fn get(&self, i: usize) -> &Field
-        requires { i < length self.now }
-        ensures { slice_get self.now i ≡ Some result.now }
-    {
-        &self.fields[i]
-    }
-
-    /// An equal list over the same bytes.
-    pub fn share(&self) -> Result<Fields, Memory>
-        ensures { IfOk result (λ r. r ≡ self.now) }
-    {
-        let mut all = Fields::new(*self.fields.allocator());
-        for field in &self.fields {
-            all.push(field.share()?)?;
-        }
-        Ok(all)
-    }
-
-    /// Whether the two have the same fields, in the same order.
-    pub fn same(&self, other: &Fields) -> bool
-        ensures { IsTrue result ↔ (self.now ≡ other.now) }
-    {
-        let length = self.fields.len();
-        if length != other.fields.len() {
-            return false;
-        }
-        for i in 0..length {
-            if !self.fields[i].same(&other.fields[i]) {
-                return false;
-            }
-        }
-        true
-    }
 
     /// Whether all fields are good.
     pub fn are_good(&self) -> bool
         ensures { result ≡ are_good_fields self.now }
     {
-        for field in &self.fields {
-            if !field.is_good() {
-                return false;
-            }
-        }
-        true
+        are_good_fields(self.as_slice())
     }
+}
 
-    /// What is wrong with the first field that is not good.
-    fn bad_field(&self) -> Option<HeadError>
-        ensures { result ≡ bad_field 0 self.now }
-    {
-        for (i, field) in self.fields.iter().enumerate() {
-            if !field.name.is_good() {
-                return Some(HeadError::BadName(i));
-            }
-            if !field.value.is_good() {
-                return Some(HeadError::BadValue(i));
-            }
+/// Whether all of these fields are good.
+fn are_good_fields(fields: &[Field]) -> bool
+    ensures { result ≡ are_good_fields fields.now }
+{
+    for field in fields {
+        if !field.is_good() {
+            return false;
         }
-        None
     }
+    true
+}
+
+/// What is wrong with the first of these fields that is not good.
+fn bad_field(fields: &[Field]) -> Option<HeadError>
+    ensures { result ≡ bad_field 0 fields.now }
+{
+    for (i, field) in fields.iter().enumerate() {
+        if !field.name.is_good() {
+            return Some(HeadError::BadName(i));
+        }
+        if !field.value.is_good() {
+            return Some(HeadError::BadValue(i));
+        }
+    }
+    None
 }
 
 /// Whether a response may have this code: whether it has three digits.
@@ -374,7 +304,7 @@ impl Head {
         if fields.len() > Fields::MOST {
             return Err(HeadError::TooMany(fields.len()));
         }
-        match fields.bad_field() {
+        match bad_field(fields.as_slice()) {
             None => Ok(Head { code, fields }),
             Some(error) => Err(error),
         }

@@ -1,6 +1,6 @@
 // A list whose room is told, for those that take all their memory before they change anything.
 
-ghost use Rattle.std.specs.Prelude.{◌≡◌, ◌++◌, ◌∷◌, ◌<◌, ◌≤◌, ◌-◌, [], length, slice_get, OnOk, Some};
+ghost use Rattle.std.specs.Prelude.{◌≡◌, ◌++◌, ◌∷◌, ◌<◌, ◌≤◌, ◌-◌, [], length, slice_get, vec_len, vec_capacity, OnOk, OnErr, Some};
 
 use crate::status::Memory;
 use std::alloc::Global;
@@ -33,22 +33,25 @@ impl<T> Grow<T> {
 
     /// The list of a vector, with the room that it has.
     pub fn from_vec(items: Vec<T>) -> Self
-        ensures { result.items ≡ items.items }
+        ensures items { result.items ≡ items.items }
+        ensures room { result.room ≡ vec_capacity items - vec_len items }
     {
         Grow { items }
     }
 
-    /// The same list, as a vector.
+    /// The same list, as a vector, with the room that it has.
     pub fn into_vec(self) -> Vec<T>
-        ensures { result.items ≡ self.items }
+        ensures items { result.items ≡ self.items }
+        ensures room { self.room ≡ vec_capacity result - vec_len result }
     {
         self.items
     }
 
-    /// Makes room for n items.
+    /// Makes room for n items. On want of memory the list is as before, with the room that it had.
     pub fn reserve(&mut self, n: usize) -> Result<(), Memory>
         ensures items { self.new.items ≡ self.old.items }
         ensures room { OnOk result (n ≤ self.new.room) }
+        ensures err { OnErr result (self.new ≡ self.old) }
     {
         match self.items.reserve(n) {
             Ok(()) => Ok(()),
@@ -62,6 +65,18 @@ impl<T> Grow<T> {
         ensures { self.new ≡ record { items = self.old.items ++ item ∷ []; room = self.old.room - 1 } }
     {
         self.items.push_reserved(item);
+    }
+
+    /// Adds items in the room behind the list, all at once.
+    pub fn extend(&mut self, items: &[T])
+    where
+        T: Copy,
+        requires { length items.now ≤ self.old.room }
+        ensures { self.new ≡ record { items = self.old.items ++ items.now; room = self.old.room - length items.now } }
+    {
+        for &item in items {
+            self.push(item);
+        }
     }
 
     /// The number of items.

@@ -1,113 +1,35 @@
-// Lists of bytes: a piece of a body, shared by all that hold it, and the bytes that a reader gathers.
+// A piece of a body, shared by all that hold it.
 
-ghost use Rattle.std.specs.Prelude.{◌≡◌, ◌++◌, ◌∷◌, ◌≤◌, ◌<◌, ◌↔◌, [], List, ℕ, length, slice_get, IsTrue, IfOk, OnOk, OnErr, Some};
-ghost use Rattle.nk_base.specs.Pieces.{IsPieceAnswer};
+ghost use Rattle.std.specs.Prelude.{◌≡◌, ◌+◌, ◌≤◌, ◌↔◌, length, IsTrue, IfOk};
+ghost use Rattle.nk_base.specs.Pieces.{part_of, IsPart, IsPiece, IsPieceAnswer};
 
-use crate::grow::Grow;
+use crate::list::Share;
 use crate::status::Memory;
 use bytes::Bytes;
 use std::alloc::Global;
 use std::marker::Model;
-
-/// A list of bytes that grows. This project's own.
-#[derive(Drop)]
-pub struct ByteList {
-    bytes: Vec<u8>,
-}
-
-impl Model for ByteList {
-    ghost Value = { List ℕ };
-
-    ghost view = { λ s. s.bytes.items };
-}
-
-impl ByteList {
-    /// The empty list.
-    pub fn new(alloc: Global) -> ByteList
-        ensures { result ≡ [] }
-    {
-        ByteList {
-            bytes: Vec::new(alloc),
-        }
-    }
-
-    /// Adds a byte behind the list.
-    pub fn push(&mut self, item: u8) -> Result<(), Memory>
-        ensures ok { OnOk result (self.new ≡ self.old ++ item ∷ []) }
-        ensures err { OnErr result (self.new ≡ self.old) }
-    {
-        match self.bytes.push(item) {
-            Ok(()) => Ok(()),
-            Err(_) => Err(Memory),
-        }
-    }
-
-    /// Adds bytes behind the list.
-    pub fn extend(&mut self, bytes: &[u8]) -> Result<(), Memory>
-        ensures ok { OnOk result (self.new ≡ self.old ++ bytes.now) }
-        ensures err { OnErr result (self.new ≡ self.old) }
-    {
-        match self.bytes.extend_from_slice(bytes) {
-            Ok(()) => Ok(()),
-            Err(_) => Err(Memory),
-        }
-    }
-
-    /// The number of bytes.
-    pub fn len(&self) -> usize
-        ensures { result ≡ length self.now }
-    {
-        self.bytes.len()
-    }
-
-    /// The byte at i, counted from 0.
-    pub fn get(&self, i: usize) -> &u8
-        requires { i < length self.now }
-        ensures { slice_get self.now i ≡ Some result.now }
-    {
-        &self.bytes[i]
-    }
-
-    /// The bytes.
-    pub fn as_slice(&self) -> &[u8]
-        ensures { result.now ≡ self.now }
-    {
-        self.bytes.as_slice()
-    }
-
-    /// The same list, as one whose room can be told.
-    pub fn into_grow(self) -> Grow<u8>
-        ensures { result.items ≡ self }
-    {
-        Grow::from_vec(self.bytes)
-    }
-
-    /// The same list, whatever room it has.
-    pub fn from_grow(bytes: Grow<u8>) -> ByteList
-        ensures { result ≡ bytes.items }
-    {
-        ByteList {
-            bytes: bytes.into_vec(),
-        }
-    }
-}
+use std::sync::Arc;
 
 /// A piece of a body: 1 to 131,072 bytes, shared by all that hold it. After the data of Firefox's
 /// `OnTransportAndData`; the bounds are this project's own.
 #[derive(Drop)]
 pub struct Piece {
-    bytes: Bytes,
+    // The bytes that it is a part of. The parts of one block share it; a piece that is made alone has a block of its own.
+    block: Arc<Bytes, Global>,
+    // How many bytes of the block come before the piece.
+    from: u32,
+    size: u32,
 }
 
 impl Model for Piece {
     ghost use Rattle.std.specs.Prelude.{List, ℕ};
-    ghost use Rattle.nk_base.specs.Pieces.{IsPiece};
+    ghost use Rattle.nk_base.specs.Pieces.{part_of, IsPart};
 
     ghost Value = { List ℕ };
 
-    ghost view = { λ s. s.bytes };
+    ghost view = { λ s. part_of s.block.value s.from s.size };
 
-    ghost invariant = { λ s. IsPiece s.bytes };
+    ghost invariant = { λ s. IsPart s.block.value s.from s.size };
 }
 
 /// Why bytes are no piece.
@@ -136,8 +58,70 @@ impl Piece {
             return Err(PieceError::TooLong);
         }
         match Bytes::copy_from_slice(alloc, source) {
-            Ok(bytes) => Ok(Piece { bytes }),
+            Ok(block) => Piece::whole(alloc, block),
             Err(_) => Err(PieceError::Memory),
+        }
+    }
+
+    /// The piece with the bytes of this vector, which are not copied.
+    pub fn from_vec(source: Vec<u8>) -> Result<Piece, PieceError>
+        ensures { IsPieceAnswer source.items result }
+    {
+        let size = source.len();
+        if size == 0 {
+            return Err(PieceError::Empty);
+        }
+        if size > Piece::MOST {
+            return Err(PieceError::TooLong);
+        }
+        let alloc = *source.allocator();
+        match Bytes::from_vec(source) {
+            Ok(block) => Piece::whole(alloc, block),
+            Err(_) => Err(PieceError::Memory),
+        }
+    }
+
+    /// The piece that is the whole of a block.
+    fn whole(alloc: Global, block: Bytes) -> Result<Piece, PieceError>
+        requires { IsPiece block }
+        ensures { IsPieceAnswer block result }
+    {
+        let size = block.len() as u32;
+        match Arc::new(alloc, block) {
+            Ok(block) => Ok(Piece {
+                block,
+                from: 0,
+                size,
+            }),
+            Err(_) => Err(PieceError::Memory),
+        }
+    }
+
+    /// The piece of so many bytes of a block that others share, behind so many others.
+    pub fn of_block(block: &Arc<Bytes, Global>, from: u32, size: u32) -> Result<Piece, Memory>
+        requires { IsPart block.now.value from size }
+        ensures { IfOk result (λ r. r ≡ part_of block.now.value from size) }
+    {
+        match Arc::try_clone(block) {
+            Ok(block) => Ok(Piece { block, from, size }),
+            Err(_) => Err(Memory),
+        }
+    }
+
+    /// The piece of so many of its bytes, behind so many others, over the same block.
+    #[tactic(auto, using(crate::proofs::Parts::part_length, crate::proofs::Parts::part_of_part))]
+    pub fn part(&self, from: u32, size: u32) -> Result<Piece, Memory>
+        requires not_empty { 1 ≤ size }
+        requires inside { from + size ≤ length self.now }
+        ensures { IfOk result (λ r. r ≡ part_of self.now from size) }
+    {
+        match Arc::try_clone(&self.block) {
+            Ok(block) => Ok(Piece {
+                block,
+                from: self.from + from,
+                size,
+            }),
+            Err(_) => Err(Memory),
         }
     }
 
@@ -145,8 +129,12 @@ impl Piece {
     pub fn share(&self) -> Result<Piece, Memory>
         ensures { IfOk result (λ r. r ≡ self.now) }
     {
-        match self.bytes.clone() {
-            Ok(bytes) => Ok(Piece { bytes }),
+        match Arc::try_clone(&self.block) {
+            Ok(block) => Ok(Piece {
+                block,
+                from: self.from,
+                size: self.size,
+            }),
             Err(_) => Err(Memory),
         }
     }
@@ -155,7 +143,7 @@ impl Piece {
     pub fn same(&self, other: &Piece) -> bool
         ensures { IsTrue result ↔ (self.now ≡ other.now) }
     {
-        self.bytes.as_slice() == other.bytes.as_slice()
+        self.as_slice() == other.as_slice()
     }
 
     /// The number of its bytes.
@@ -164,13 +152,24 @@ impl Piece {
         ensures not_empty { 1 ≤ result }
         ensures bounded { result ≤ 131072 }
     {
-        self.bytes.as_slice().len() as u32
+        self.size
     }
 
     /// Its bytes.
     pub fn as_slice(&self) -> &[u8]
         ensures { result.now ≡ self.now }
     {
-        self.bytes.as_slice()
+        let all = self.block.as_slice();
+        &all[self.from as usize..self.from as usize + self.size as usize]
+    }
+}
+
+impl Share for Piece {
+    fn shared(&self) -> Result<Piece, Memory> {
+        self.share()
+    }
+
+    fn is(&self, other: &Piece) -> bool {
+        self.same(other)
     }
 }

@@ -1,8 +1,8 @@
 // The first failure of one channel, which its parent and its child each keep.
 
 ghost use Rattle.std.specs.Prelude.{◌≡◌, ◌&&◌, IfSome, None, is_none, true};
-ghost use Rattle.nk_base.specs.Status.{is_failure, is_legal_status};
-ghost use Rattle.nk_cancel.specs.First.{IsFailure, merged, kept_status};
+ghost use Rattle.nk_base.specs.Status.{is_failure, is_legal_status, merged, kept_status};
+ghost use Rattle.nk_cancel.specs.First.{IsFailure};
 
 use nk_base::Status;
 use std::marker::Model;

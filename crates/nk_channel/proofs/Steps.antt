@@ -18,9 +18,9 @@ use Rattle.nk_plan.specs.Journal.{mains_sent, backs_sent}
 use Rattle.nk_plan.specs.Parent.{ParentState, parent_step, take_up}
 use Rattle.nk_plan.specs.Child.{ChildState, child_step, step_main, step_back, with_entry}
 use Rattle.nk_plan.specs.declared.journal.ChildEntry.TheVariants as entered
-use Rattle.nk_plan.specs.Channel.{Channel, main_lane, back_lane, up_lane, up_step, main_step, back_step, forward_step, channel_step}
+use Rattle.nk_plan.specs.Channel.{Channel, main_lane, back_lane, up_lane, up_step, main_step, back_step, forward_step, channel_step, half_lane}
 use Rattle.nk_parent.specs.Views.{added}
-use Rattle.nk_laws.specs.Moves.{mains_of, backs_of, half_lane, Moves, ParentMoves, ChildMoves, HalfMoves}
+use Rattle.nk_laws.specs.Moves.{mains_of, backs_of, Moves, ParentMoves, ChildMoves, HalfMoves}
 use Rattle.nk_channel.specs.Parts.{Parts, parts_of, turned, fetched, up_taken, moved_on, main_taken, back_taken, parts_step}
 use Rattle.nk_channel.proofs.Lists.{some_behind}
 

@@ -15,10 +15,9 @@ use Rattle.nk_plan.specs.declared.step.ChildStep.TheVariants as child
 use Rattle.nk_plan.specs.Journal.{mains_sent, backs_sent}
 use Rattle.nk_plan.specs.Parent.{ParentState, new_parent, parent_step}
 use Rattle.nk_plan.specs.Child.{ChildState, new_child, child_step}
-use Rattle.nk_plan.specs.Channel.{Channel, main_lane, back_lane, up_lane}
+use Rattle.nk_plan.specs.Channel.{Channel, main_lane, back_lane, up_lane, half_lane}
 use Rattle.nk_plan.specs.Enabled.{child_enabled, parent_enabled}
 use Rattle.nk_parent.specs.Views.{added}
-use Rattle.nk_laws.specs.Moves.{half_lane}
 
 -- the plan; both halves; how many messages the parent's background half has moved on; and what is on the way: on the main
 -- lane, from the parent to its background half, on the background lane, and on the up lane

@@ -7,7 +7,7 @@ ghost use Rattle.nk_plan.specs.declared.step.Step.TheVariants as step;
 ghost use Rattle.nk_plan.specs.Accepted.{Accepted};
 ghost use Rattle.nk_plan.specs.Enabled.{child_enabled};
 ghost use Rattle.nk_plan.specs.Ending.{ending_of};
-ghost use Rattle.nk_child.specs.Moved.{moved_if};
+ghost use Rattle.nk_base.specs.Status.{moved_if};
 ghost use Rattle.nk_child.specs.Steps.{IsStepInRange};
 ghost use Rattle.nk_channel.specs.Parts.{new_parts, turned, parts_step, parts_enabled, next_for, IsRoomy};
 
@@ -46,9 +46,8 @@ impl Model for Channel {
 }
 
 impl Channel {
-    /// The channel of a plan, which `ChannelPlan::new` accepts, before its first step.
+    /// The channel of a plan before its first step.
     pub fn new(alloc: Global, plan: &ChannelPlan) -> Result<Channel, Memory>
-        requires { Accepted plan.now }
         ensures { IfOk result (λ r. r ≡ new_parts plan.now) }
     {
         let parent = Parent::new(alloc, plan)?;

@@ -11,7 +11,7 @@ use Rattle.nk_plan.specs.declared.event.ChildEvent.TheVariants.{Start, Stop}
 use Rattle.nk_base.specs.declared.message.MainMsg.TheVariants as main
 use Rattle.nk_plan.specs.declared.step.ChildStep.TheVariants as step
 use Rattle.nk_plan.specs.declared.journal.ChildEntry.TheVariants as entry
-use Rattle.nk_plan.specs.Failure.{merged}
+use Rattle.nk_base.specs.Status.{merged}
 use Rattle.nk_plan.specs.Child.{ChildState, child_step, with_entry, perform_call, call_break, offer_event, offer_all, is_empty}
 use Rattle.nk_child.specs.Views.{WorkView, Leaves}
 

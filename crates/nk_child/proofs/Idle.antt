@@ -12,7 +12,7 @@ use Rattle.nk_plan.specs.declared.step.ChildStep.{ChildStep}
 use Rattle.nk_plan.specs.declared.step.ChildStep.TheVariants as step
 use Rattle.nk_plan.specs.Child.{ChildState, perform_control, is_due, runs_on, step_verdict, step_release, step_finish, child_step}
 use Rattle.nk_plan.specs.Enabled.{child_enabled}
-use Rattle.nk_child.specs.Moved.{moved_if}
+use Rattle.nk_base.specs.Status.{moved_if}
 use Rattle.nk_child.specs.Views.{ChildView}
 
 not_if : {A : Type 0} (b : Bool) (x s : A) → b ≡ false → (if b then x else s) ≡ s

@@ -8,5 +8,6 @@ pub mod Gains
 pub mod Ranges
 pub mod Reacting
 pub mod Same
+pub mod Sent
 pub mod Stays
 pub mod Idle

@@ -8,13 +8,12 @@ use Rattle.nk_base.specs.declared.status.Status.{Status}
 use Rattle.nk_base.specs.declared.status.RetargetError.{RetargetError}
 use Rattle.nk_base.specs.declared.message.UpMsg.{UpMsg}
 use Rattle.nk_base.specs.declared.message.UpMsg.TheVariants as up
-use Rattle.nk_base.specs.Status.{is_failure}
+use Rattle.nk_base.specs.Status.{is_failure, merged, or_else}
 use Rattle.nk_plan.specs.declared.plan.ChannelPlan.{ChannelPlan}
 use Rattle.nk_plan.specs.declared.plan.Reaction.{Reaction}
 use Rattle.nk_plan.specs.declared.plan.Reaction.TheVariants as reaction
 use Rattle.nk_plan.specs.declared.journal.ChildEntry.TheVariants as child
 use Rattle.nk_plan.specs.Accepted.{IsGoodReaction}
-use Rattle.nk_plan.specs.Failure.{merged, or_else}
 use Rattle.nk_plan.specs.Child.{ChildState, with_entry, call_suspend, call_cancel, call_retarget, refusal, react, react_all, bytes_failure}
 use Rattle.nk_child.specs.Reactions.{reaction_sends, suspended_by, failed_by, reactions_send, start_sends, failure_of}
 

@@ -3,11 +3,10 @@ use Rattle.std.proofs.Common.{ℕ, ◌≡◌, refl, ap, Bool, true, false, not, 
 use Rattle.std.proofs.Math.Bool.{or-true}
 use Rattle.nk_base.specs.declared.status.Status.{Status}
 use Rattle.nk_base.specs.declared.status.RetargetError.TheVariants as refused_for
-use Rattle.nk_base.specs.Status.{is_failure, is_legal_status}
+use Rattle.nk_base.specs.Status.{is_failure, is_legal_status, kept_status, merged, or_else, failure}
 use Rattle.nk_plan.specs.declared.plan.ChannelPlan.{ChannelPlan}
 use Rattle.nk_plan.specs.declared.event.ChildEvent.TheVariants.{Start, Stop}
 use Rattle.nk_base.specs.declared.message.Entry.TheVariants as shown
-use Rattle.nk_plan.specs.Failure.{kept_status, merged, or_else, failure}
 use Rattle.nk_plan.specs.Plan.{stop_trailers}
 use Rattle.nk_child.specs.Shown.{event_shown}
 use Rattle.nk_plan.specs.Child.{later_refusal, hop_verdict, verdict_status}

@@ -1,6 +1,5 @@
 pub mod Endings
 pub mod Events
-pub mod Moved
 pub mod Reactions
 pub mod Running
 pub mod Shown

@@ -10,7 +10,7 @@ use Rattle.nk_plan.specs.declared.plan.ChannelPlan.{ChannelPlan}
 use Rattle.nk_plan.specs.declared.event.ChildEvent.{ChildEvent}
 use Rattle.nk_plan.specs.declared.event.ChildEvent.TheVariants.{Start, Bytes, Stop, Redirect1, Redirect3, Cancel}
 use Rattle.nk_plan.specs.Event.{class_of}
-use Rattle.nk_plan.specs.Failure.{merged, kept_status}
+use Rattle.nk_base.specs.Status.{merged, kept_status}
 use Rattle.nk_plan.specs.Plan.{stop_trailers}
 use Rattle.nk_plan.specs.Child.{cancel_messages}
 

@@ -5,11 +5,16 @@ use Rattle.nk_base.specs.Queue.{Queue, posted_to}
 use Rattle.nk_plan.specs.declared.plan.ChannelPlan.{ChannelPlan}
 use Rattle.nk_plan.specs.declared.event.ChildEvent.{ChildEvent}
 use Rattle.nk_plan.specs.Child.{ChildState}
+use Rattle.nk_plan.specs.Run.{sends_of}
 
 -- a child: its plan, and what it is between two steps
 pub record ChildView : Type 0 where
   pub plan : ChannelPlan
   pub state : ChildState
+
+-- a child does not keep what it sent: its plan and its journal tell it
+abbrev pub with_sent : ChannelPlan → ChildState → ChildState
+with_sent c s = record s { sent = sends_of c s.journal }
 
 -- for how many items there is room in each part
 pub record Rooms : Type 0 where

@@ -7,7 +7,7 @@ ghost use Rattle.nk_plan.specs.Enabled.{child_enabled};
 ghost use Rattle.nk_plan.specs.Ending.{is_left_suspended};
 ghost use Rattle.nk_plan.specs.declared.step.ChildStep.TheVariants as step;
 ghost use Rattle.nk_base.specs.declared.message.UpMsg.TheVariants as up_message;
-ghost use Rattle.nk_child.specs.Moved.{moved_if};
+ghost use Rattle.nk_base.specs.Status.{moved_if};
 ghost use Rattle.nk_child.specs.Reactions.{due_act};
 ghost use Rattle.nk_plan.specs.declared.journal.ChildEntry.TheVariants as entry;
 ghost use Rattle.nk_child.specs.Views.{HasRoom, Leaves, Counted, Gains};

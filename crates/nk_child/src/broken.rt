@@ -7,7 +7,7 @@ ghost use Rattle.nk_base.specs.Queue.{cleared, is_busy};
 ghost use Rattle.nk_plan.specs.declared.plan.Act.TheVariants as act;
 ghost use Rattle.nk_plan.specs.Child.{perform_call, is_empty, offer_event};
 ghost use Rattle.nk_plan.specs.declared.journal.ChildEntry.TheVariants as entry;
-ghost use Rattle.nk_plan.specs.Failure.{merged};
+ghost use Rattle.nk_base.specs.Status.{merged};
 ghost use Rattle.nk_child.specs.Shown.{with_shown, event_shown, event_sends, offer_shown};
 ghost use Rattle.nk_child.specs.Views.{HasRoom, Leaves, Counted, Gains};
 

@@ -1,17 +1,16 @@
 // A callback of the listener returns: its reactions are performed, and what was read is sent up.
 
-ghost use Rattle.std.specs.Prelude.{◌≡◌, ◌<◌, ◌++◌, ◌∷◌, ◌≤◌, ◌+◌, ◌-◌, ◌^◌, [], suc, IfOk, IfSome, OnOk, OnErr, length, true, None};
+ghost use Rattle.std.specs.Prelude.{◌≡◌, ◌<◌, ◌++◌, ◌∷◌, ◌≤◌, ◌+◌, ◌-◌, ◌^◌, [], suc, IfOk, IfSome, OnOk, OnErr, length, slice_get, true, None, Some};
 ghost use Rattle.nk_base.specs.declared.message.UpMsg.TheVariants as up_message;
 ghost use Rattle.nk_base.specs.Queue.{IsTarget, posted_to, unforced};
 ghost use Rattle.nk_base.specs.Ranges.{IsReadCount};
-ghost use Rattle.nk_base.specs.Status.{is_failure, ok};
+ghost use Rattle.nk_base.specs.Status.{is_failure, ok, moved_if};
 ghost use Rattle.nk_plan.specs.Accepted.{IsGoodReaction};
 ghost use Rattle.nk_plan.specs.Child.{react, react_all, bytes_failure, prepend_cancel, fail_data, finish_event, perform_call, runs_on, step_finish, child_step};
 ghost use Rattle.nk_plan.specs.Enabled.{child_enabled};
 ghost use Rattle.nk_plan.specs.declared.step.ChildStep.TheVariants as step;
 ghost use Rattle.nk_plan.specs.declared.event.ChildEvent.TheVariants as event;
 ghost use Rattle.nk_plan.specs.declared.journal.ChildEntry.TheVariants as entry;
-ghost use Rattle.nk_child.specs.Moved.{moved_if};
 ghost use Rattle.nk_child.specs.Reactions.{start_sends, failure_of};
 ghost use Rattle.nk_plan.specs.declared.plan.Act.TheVariants as act;
 ghost use Rattle.nk_base.specs.declared.status.Target.{Target};
@@ -22,7 +21,15 @@ use crate::queued::Queued;
 use crate::standing::Standing;
 use crate::work::Work;
 use nk_base::{Memory, Moved, Out, Status, Target, UpMsg};
-use nk_plan::{ChildEntry, ChildEvent, Reaction};
+use nk_plan::{ChannelPlan, ChildEntry, ChildEvent, Reaction};
+
+// Reaction i of a plan, counted from 0.
+fn reaction_of(plan: &ChannelPlan, i: usize) -> Reaction
+    requires { i < length plan.now.reactions }
+    ensures { slice_get plan.now.reactions i ≡ Some result }
+{
+    *plan.reactions.get(i)
+}
 
 impl Work {
     /// Nothing runs any more on this target.
@@ -108,7 +115,7 @@ impl Work {
         };
         let most = self.plan.reactions.len();
         for i in 0..most {
-            standing.stage(*self.plan.reactions.get(i), up)?;
+            standing.stage(reaction_of(&self.plan, i), up)?;
         }
         Ok(())
     }
@@ -127,7 +134,7 @@ impl Work {
     {
         let most = self.plan.reactions.len();
         for i in 0..most {
-            let reaction = *self.plan.reactions.get(i);
+            let reaction = reaction_of(&self.plan, i);
             self.react(reaction);
         }
     }

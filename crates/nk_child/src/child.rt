@@ -10,7 +10,7 @@ ghost use Rattle.nk_plan.specs.Enabled.{child_enabled};
 ghost use Rattle.nk_plan.specs.Ending.{ending_of, ends_in_stop};
 ghost use Rattle.nk_plan.specs.Run.{IsChildState, IsChildRun, trace_of, sends_of};
 ghost use Rattle.nk_child.specs.Endings.{standing, is_stop};
-ghost use Rattle.nk_child.specs.Moved.{moved_if};
+ghost use Rattle.nk_base.specs.Status.{moved_if};
 ghost use Rattle.nk_child.specs.Running.{running_target};
 ghost use Rattle.nk_child.specs.Steps.{IsStepInRange};
 
@@ -22,8 +22,9 @@ use std::alloc::Global;
 use std::marker::Model;
 use std::mem::replace;
 
-/// The half of a channel that the page sees. What it has come to be is what the child's table makes of some steps. After
-/// Firefox's `HttpChannelChild` and `HttpBackgroundChannelChild` in outline.
+/// The half of a channel that the page sees. What it has come to be is what the child's table makes of some steps. It keeps
+/// no list of what it sent: its plan and its journal tell that. After Firefox's `HttpChannelChild` and
+/// `HttpBackgroundChannelChild` in outline.
 #[derive(Drop)]
 pub struct Child {
     work: Work,
@@ -33,22 +34,21 @@ pub struct Child {
 
 impl Model for Child {
     ghost use Rattle.nk_plan.specs.Run.{IsChildState};
-    ghost use Rattle.nk_child.specs.Views.{ChildView};
+    ghost use Rattle.nk_child.specs.Views.{ChildView, with_sent};
 
     ghost Value = { ChildView };
 
     ghost view = { λ s. record {
       plan = s.work.plan;
-      state = record s.work.state { journal = s.journal; trace = s.trace };
+      state = with_sent s.work.plan (record s.work.state { journal = s.journal; trace = s.trace });
     } };
 
-    ghost invariant = { λ s. IsChildState s.work.plan (record s.work.state { journal = s.journal; trace = s.trace }) };
+    ghost invariant = { λ s. IsChildState s.work.plan (with_sent s.work.plan (record s.work.state { journal = s.journal; trace = s.trace })) };
 }
 
 impl Child {
     /// The child of a plan, before its first step.
     pub fn new(alloc: Global, plan: &ChannelPlan) -> Result<Child, Memory>
-        requires { Accepted plan.now }
         ensures { IfOk result (λ r. r ≡ record { plan = plan.now; state = new_child plan.now }) }
     {
         let plan = plan.share()?;
@@ -59,11 +59,12 @@ impl Child {
         })
     }
 
-    /// What the child took and did, in order.
+    /// What the child took and did, in order. With the plan it tells what was sent.
     pub fn journal(&self) -> &ChildJournal
         ensures journal { result.now ≡ self.now.state.journal }
         ensures state { IsChildState self.now.plan self.now.state }
         ensures run { IsChildRun self.now.plan result.now }
+        ensures sent { self.now.state.sent ≡ sends_of self.now.plan result.now }
     {
         &self.journal
     }
@@ -75,15 +76,6 @@ impl Child {
     {
         state_law();
         &self.trace
-    }
-
-    /// What was sent on the up lane, in order.
-    pub fn sent(&self) -> &[UpMsg]
-        ensures sent { result.now ≡ self.now.state.sent }
-        ensures told { result.now ≡ sends_of self.now.plan self.now.state.journal }
-    {
-        state_law();
-        self.work.sent()
     }
 
     /// The plan.
@@ -215,6 +207,7 @@ impl Child {
         ensures err_delivery_room { OnErr result (D.room delivery.new ≡ D.room delivery.old) }
     {
         journal_law();
+        state_law();
         let alloc = self.work.alloc();
         let journal = replace(&mut self.journal, ChildJournal::new(alloc));
         let trace = replace(&mut self.trace, Trace::new(alloc));

@@ -9,7 +9,7 @@ ghost use Rattle.nk_plan.specs.Child.{flush_with, child_step};
 ghost use Rattle.nk_plan.specs.Enabled.{child_enabled};
 ghost use Rattle.nk_plan.specs.declared.step.ChildStep.TheVariants as step;
 ghost use Rattle.nk_plan.specs.declared.journal.ChildEntry.TheVariants as entry;
-ghost use Rattle.nk_child.specs.Moved.{moved_if};
+ghost use Rattle.nk_base.specs.Status.{moved_if};
 ghost use Rattle.nk_child.specs.Shown.{with_shown, event_sends, next_shown, next_sends};
 ghost use Rattle.nk_child.specs.Views.{HasRoom, Leaves, Counted, Gains};
 

@@ -10,7 +10,7 @@ ghost use Rattle.nk_plan.specs.Child.{offer_event, offer_all, with_entry, back_e
 ghost use Rattle.nk_plan.specs.Enabled.{child_enabled};
 ghost use Rattle.nk_plan.specs.declared.step.ChildStep.TheVariants as step;
 ghost use Rattle.nk_base.specs.declared.message.MainMsg.TheVariants as main;
-ghost use Rattle.nk_child.specs.Moved.{moved_if};
+ghost use Rattle.nk_base.specs.Status.{moved_if};
 ghost use Rattle.nk_child.specs.Shown.{with_shown, event_sends, offer_shown};
 ghost use Rattle.nk_child.specs.Views.{HasRoom, Leaves, Counted, Gains};
 

@@ -3,7 +3,7 @@
 ghost use Rattle.std.specs.Prelude.{◌≡◌, ◌<◌, ◌++◌, ◌∷◌, ◌≤◌, ◌+◌, ◌^◌, [], IfOk, length, true, Some};
 ghost use Rattle.nk_base.specs.declared.status.Target.{Target};
 ghost use Rattle.nk_base.specs.Queue.{IsTarget, is_busy, posted_to, forced_once};
-ghost use Rattle.nk_plan.specs.Failure.{merged, kept_status};
+ghost use Rattle.nk_base.specs.Status.{merged, kept_status};
 ghost use Rattle.nk_plan.specs.Plan.{stop_trailers};
 ghost use Rattle.nk_plan.specs.Child.{run_event, run_bytes, cancel_messages, offer_event};
 ghost use Rattle.nk_plan.specs.declared.event.ChildEvent.TheVariants as event;

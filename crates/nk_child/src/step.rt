@@ -3,7 +3,7 @@
 ghost use Rattle.std.specs.Prelude.{◌≡◌, ◌++◌, ◌≤◌, ◌+◌, [], IfOk, OnOk, OnErr, length, drop};
 ghost use Rattle.nk_plan.specs.Child.{child_step};
 ghost use Rattle.nk_plan.specs.Enabled.{child_enabled};
-ghost use Rattle.nk_child.specs.Moved.{moved_if};
+ghost use Rattle.nk_base.specs.Status.{moved_if};
 ghost use Rattle.nk_child.specs.Steps.{IsStepInRange};
 ghost use Rattle.nk_child.specs.Views.{HasRoom, Counted, Gains};
 

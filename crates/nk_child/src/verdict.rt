@@ -3,14 +3,13 @@
 ghost use Rattle.std.specs.Prelude.{◌≡◌, ◌<◌, ◌+◌, ◌++◌, ◌∷◌, [], IfOk, IfNone, IfSome, OnOk, OnErr, length, true, Some, None};
 ghost use Rattle.nk_base.specs.declared.message.UpMsg.TheVariants as up_message;
 ghost use Rattle.nk_base.specs.Ranges.{IsUpInRange};
-ghost use Rattle.nk_base.specs.Status.{is_legal_status};
+ghost use Rattle.nk_base.specs.Status.{is_legal_status, moved_if};
 ghost use Rattle.nk_redirect.specs.Verdict.{veto_of};
 ghost use Rattle.nk_plan.specs.Plan.{hop_at};
 ghost use Rattle.nk_plan.specs.Child.{hop_verdict, verdict_status, child_step};
 ghost use Rattle.nk_plan.specs.Enabled.{child_enabled};
 ghost use Rattle.nk_plan.specs.declared.journal.ChildEntry.TheVariants as entry;
 ghost use Rattle.nk_plan.specs.declared.step.ChildStep.TheVariants as step;
-ghost use Rattle.nk_child.specs.Moved.{moved_if};
 ghost use Rattle.nk_child.specs.Views.{HasRoom, Gains};
 
 use crate::work::Work;

@@ -3,9 +3,8 @@
 ghost use Rattle.std.specs.Prelude.{◌≡◌, ◌<◌, ◌-◌, ◌^◌, [], length, OnOk, is_some};
 ghost use Rattle.std.specs.Bool.{OnTrue};
 ghost use Rattle.nk_base.specs.Queue.{IsTarget};
-ghost use Rattle.nk_base.specs.Status.{is_failure};
+ghost use Rattle.nk_base.specs.Status.{is_failure, merged, kept_status};
 ghost use Rattle.nk_plan.specs.Accepted.{Accepted};
-ghost use Rattle.nk_plan.specs.Failure.{merged, kept_status};
 ghost use Rattle.nk_plan.specs.Child.{new_child, with_entry, runs_on};
 ghost use Rattle.nk_child.specs.Running.{running_target};
 ghost use Rattle.nk_child.specs.Shown.{with_shown};
@@ -61,7 +60,7 @@ pub(crate) struct Work {
     pub(crate) journal: Grow<ChildEntry>,
     /// What the listener was shown.
     pub(crate) trace: Grow<Entry>,
-    /// What was sent on the up lane.
+    /// What this step sends on the up lane.
     pub(crate) sent: Grow<UpMsg>,
 }
 
@@ -116,7 +115,6 @@ impl Model for Work {
 impl Work {
     /// A new child.
     pub(crate) fn new(alloc: Global, plan: ChannelPlan) -> Work
-        requires { Accepted plan }
         ensures plan { result.plan ≡ plan }
         ensures state { result.state ≡ new_child plan }
     {
@@ -232,23 +230,28 @@ impl Work {
         self.alloc
     }
 
-    /// What was sent on the up lane.
-    pub(crate) fn sent(&self) -> &[UpMsg]
-        ensures { result.now ≡ self.now.state.sent }
-    {
-        self.sent.as_slice()
-    }
-
-    /// Takes the lists that grow. A list in memory is far from as long as numbers go.
+    /// Takes the lists that grow, with nothing sent. A list in memory is far from as long as numbers go.
     pub(crate) fn put_lists(&mut self, journal: ChildJournal, trace: Trace)
         ensures plan { self.new.plan ≡ self.old.plan }
         ensures few { length self.new.state.journal < 2 ^ 62 }
         ensures accepted { Accepted self.new.plan }
-        ensures state { self.new.state ≡ record self.old.state { journal = journal; trace = trace } }
+        ensures state { self.new.state ≡ record self.old.state { journal = journal; trace = trace; sent = [] } }
+        ensures sent { self.new.state.sent ≡ [] }
     {
         self.journal = journal.into_grow();
         self.trace = trace.into_grow();
+        self.forget_sent();
         prove!(self.journal.as_slice().len() < 1 << 62);
+    }
+
+    /// Forgets what was sent, and keeps the list's memory.
+    fn forget_sent(&mut self)
+        ensures plan { self.new.plan ≡ self.old.plan }
+        ensures state { self.new.state ≡ record self.old.state { sent = [] } }
+    {
+        let mut sent = replace(&mut self.sent, Grow::new(self.alloc)).into_vec();
+        sent.clear();
+        self.sent = Grow::from_vec(sent);
     }
 
     /// Gives the journal away.

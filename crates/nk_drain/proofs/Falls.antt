@@ -15,9 +15,9 @@ use Rattle.nk_plan.specs.Accepted.{Accepted}
 use Rattle.nk_plan.specs.Journal.{mains_taken, backs_taken, ups_taken, mains_sent, backs_sent}
 use Rattle.nk_plan.specs.Parent.{ParentState, parent_step}
 use Rattle.nk_plan.specs.Child.{ChildState, with_entry, step_main, step_back, child_step}
-use Rattle.nk_plan.specs.Channel.{Channel, main_lane, back_lane, up_lane, up_step, main_step, back_step, forward_step, channel_step}
+use Rattle.nk_plan.specs.Channel.{Channel, main_lane, back_lane, up_lane, up_step, main_step, back_step, forward_step, channel_step, half_lane}
 use Rattle.nk_plan.specs.Enabled.{child_enabled, channel_enabled}
-use Rattle.nk_drain.specs.Work.{child_work, fetches_left, half_lane, work, Falls}
+use Rattle.nk_drain.specs.Work.{child_work, fetches_left, work, Falls}
 use Rattle.nk_drain.proofs.Tools.{keeps_if, less_or_same, mains_more, backs_more}
 use Rattle.nk_drain.proofs.ParentFalls.{Placed, Adds, Fetched, fetch_falls, Heard, up_heard}
 use Rattle.nk_drain.proofs.ChildRows.{Row, main_row, back_row}

@@ -3,7 +3,7 @@ use Rattle.std.proofs.Common.{ℕ, suc, ◌≡◌, ◌+◌, ◌<◌, ◌≤◌, 
 use Rattle.nk_base.specs.declared.status.Status.{Status}
 use Rattle.nk_base.specs.declared.field.Head.{Head}
 use Rattle.nk_base.specs.declared.message.UpMsg.{UpMsg}
-use Rattle.nk_base.specs.Status.{redirect_loop}
+use Rattle.nk_base.specs.Status.{redirect_loop, merged, kept_status}
 use Rattle.nk_plan.specs.declared.plan.ChannelPlan.{ChannelPlan}
 use Rattle.nk_plan.specs.declared.plan.StartLane.{StartLane}
 use Rattle.nk_plan.specs.declared.plan.Hop.{Hop}
@@ -13,7 +13,6 @@ use Rattle.nk_plan.specs.declared.step.ParentStep.{ParentStep}
 use Rattle.nk_plan.specs.declared.step.Phase.{Phase}
 use Rattle.nk_plan.specs.declared.step.Phase.TheVariants.{Closed, Ready, Asking, Follow, Body, Done}
 use Rattle.nk_plan.specs.Accepted.{Accepted, body_of}
-use Rattle.nk_plan.specs.Failure.{merged, kept_status}
 use Rattle.nk_plan.specs.Journal.{mains_sent, backs_sent, ups_taken}
 use Rattle.nk_plan.specs.Plan.{hop_at, hop_pieces, pieces_at}
 use Rattle.nk_plan.specs.Parent.{ParentState, opened_phase, kept_after_cancel, awaits_verdict, start_entries, give_start, bare_head, fetch_finish, fetch_piece, fetch_body, fetch_redirect, fetch_hop, fetch_follow, fetch_in, parent_step}

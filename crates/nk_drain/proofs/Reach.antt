@@ -16,14 +16,14 @@ use Rattle.nk_plan.specs.Journal.{backs_sent}
 use Rattle.nk_plan.specs.Child.{ChildState, with_entry, step_main, step_back, child_step}
 use Rattle.nk_plan.specs.Channel.{Channel, main_lane, back_lane, up_lane, up_step, main_step, back_step, channel_step, new_channel, channel_after}
 use Rattle.nk_plan.specs.Enabled.{child_enabled, channel_enabled}
-use Rattle.nk_drain.specs.Work.{half_lane, work, Falls}
+use Rattle.nk_drain.specs.Work.{work, Falls}
 use Rattle.nk_drain.proofs.Tools.{keeps_if, by_bool}
 use Rattle.nk_drain.proofs.Idle.{child_idle, idle}
 use Rattle.nk_drain.proofs.ParentFalls.{first_there, up_placed, step_placed}
 use Rattle.nk_drain.proofs.ChildRows.{Row, main_row, back_row}
 use Rattle.nk_drain.proofs.ChildFalls.{Sinks, TakesNone, child_sinks}
 use Rattle.nk_drain.proofs.Falls.{Reached, step_falls}
-use Rattle.nk_drain.proofs.Rooms.{starts, lanes}
+use Rattle.nk_drain.proofs.Rooms.{starts}
 
 -- A child's step keeps the number of its queue's targets
 
@@ -105,30 +105,15 @@ falls_work : (c : ChannelPlan) (v w : Channel) → Falls c v w → work c v ≤ 
 falls_work c v w (inl l) = under (work c v) (work c w) l
 falls_work c v w (inr (e, q)) = same (work c v) (work c w) e
 
-pub no_more : (c : ChannelPlan) (steps : List Step) (x : Step) → Accepted c → work c (channel_step c x (channel_after c steps)) ≤ work c (channel_after c steps)
+no_more : (c : ChannelPlan) (steps : List Step) (x : Step) → Accepted c → work c (channel_step c x (channel_after c steps)) ≤ work c (channel_after c steps)
 no_more c steps x a =
     let w = channel_after c steps in
     by_bool (channel_enabled c x w) (λ e. falls_work c (channel_step c x w) w (falls c steps x a e))
     (λ e. same (work c (channel_step c x w)) (work c w) (ap (λ (y : Channel). work c y) (idle c x w e)))
 
-pub within_start : (c : ChannelPlan) (steps : List Step) → Accepted c → work c (channel_after c steps) ≤ work c (new_channel c)
+within_start : (c : ChannelPlan) (steps : List Step) → Accepted c → work c (channel_after c steps) ≤ work c (new_channel c)
 within_start c [] a = same (work c (new_channel c)) (work c (new_channel c)) refl
 within_start c (x ∷ xs) a = trans (work c (channel_after c (x ∷ xs))) (work c (channel_after c xs)) (work c (new_channel c)) (no_more c xs x a) (within_start c xs a)
 
 pub small : (c : ChannelPlan) (steps : List Step) → Accepted c → work c (channel_after c steps) < 16777216
 small c steps a = below (work c (channel_after c steps)) (work c (new_channel c)) (within_start c steps a) (starts c a)
-
-pub rooms : (c : ChannelPlan) (steps : List Step) → Accepted c →
-    (length (main_lane (channel_after c steps)) < 16777216)
-    × (length (half_lane (channel_after c steps)) < 16777216)
-    × (length (back_lane (channel_after c steps)) < 16777216)
-    × (length (up_lane (channel_after c steps)) < 16777216)
-rooms c steps a =
-    let w = channel_after c steps in
-    let l : (length (main_lane w) ≤ work c w) × (length (half_lane w) ≤ work c w) × (length (back_lane w) ≤ work c w) × (length (up_lane w) ≤ work c w) = lanes c w in
-    let n : work c w < 16777216 = small c steps a in (
-      below (length (main_lane w)) (work c w) l.0 n,
-      below (length (half_lane w)) (work c w) l.1 n,
-      below (length (back_lane w)) (work c w) l.2 n,
-      below (length (up_lane w)) (work c w) l.3 n,
-    )

@@ -1,12 +1,12 @@
--- How much a new channel has to do; and that its work bounds its lanes and the number of its queue.
+-- How much a new channel has to do; and that its work bounds the number of its queue.
 use Rattle.std.proofs.Common.{ℕ, ◌≡◌, refl, ◌+◌, ◌*◌, ◌<◌, ◌≤◌, length, arith}
 use Rattle.nk_plan.specs.declared.plan.ChannelPlan.{ChannelPlan}
 use Rattle.nk_plan.specs.declared.plan.StartLane.{StartLane}
 use Rattle.nk_plan.specs.declared.plan.StartLane.TheVariants as lane
 use Rattle.nk_plan.specs.Accepted.{Accepted, body_of}
 use Rattle.nk_plan.specs.Child.{new_hold}
-use Rattle.nk_plan.specs.Channel.{Channel, main_lane, back_lane, up_lane, new_channel}
-use Rattle.nk_drain.specs.Work.{running_work, question_work, queue_work, calls_work, child_work, fetches_left, hold_work, half_lane, work, queue_number}
+use Rattle.nk_plan.specs.Channel.{Channel, main_lane, back_lane, up_lane, new_channel, half_lane}
+use Rattle.nk_drain.specs.Work.{running_work, question_work, queue_work, calls_work, fetches_left, hold_work, work, queue_number}
 use Rattle.nk_drain.proofs.QueueFalls.{number_most}
 
 nothing_held : (l : StartLane) → hold_work (new_hold l) ≡ 0
@@ -21,16 +21,10 @@ starts c a =
     let z : hold_work (new_hold c.start) ≡ 0 = nothing_held c.start in
     omega arith
 
-parts : (f m h b u k : ℕ) → let n = 208 * f + 137 * m + 70 * h + 69 * b + u + k in (m ≤ n) × (h ≤ n) × (b ≤ n) × (u ≤ n)
-parts f m h b u k = omega arith
-
 held : (n q f k r x : ℕ) → n ≤ 4 * q → n ≤ 4 * (f + (k + q + r + x))
 held n q f k r x l = omega arith
 
-pub lanes : (c : ChannelPlan) (w : Channel) → (length (main_lane w) ≤ work c w) × (length (half_lane w) ≤ work c w) × (length (back_lane w) ≤ work c w) × (length (up_lane w) ≤ work c w)
-lanes c w = parts (fetches_left c w.parent) (length (main_lane w)) (length (half_lane w)) (length (back_lane w)) (length (up_lane w)) (child_work c w.child)
-
--- nor is the queue's number larger than four times that
+-- the number of its queue is not larger than four times its work
 pub numbers : (c : ChannelPlan) (w : Channel) → queue_number w.child.queue ≤ 4 * work c w
 numbers c w =
     let n : queue_number w.child.queue ≤ 4 * queue_work w.child.queue = number_most w.child.queue in

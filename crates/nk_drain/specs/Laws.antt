@@ -1,12 +1,11 @@
 -- The laws of the drain, each the contract of a public function.
-use Rattle.std.specs.Prelude.{ℕ, ◌≡◌, ◌<◌, ◌≤◌, ◌⊎◌, true, false, List, [], ◌∷◌, ◌++◌, length}
+use Rattle.std.specs.Prelude.{◌≡◌, ◌<◌, ◌⊎◌, true, false, List, [], ◌∷◌, ◌++◌}
 use Rattle.nk_plan.specs.declared.plan.ChannelPlan.{ChannelPlan}
 use Rattle.nk_plan.specs.declared.step.Step.{Step}
-use Rattle.nk_plan.specs.Accepted.{Accepted, body_of}
-use Rattle.nk_plan.specs.Plan.{pieces_at}
-use Rattle.nk_plan.specs.Channel.{Channel, main_lane, back_lane, up_lane, channel_step, new_channel, channel_after}
+use Rattle.nk_plan.specs.Accepted.{Accepted}
+use Rattle.nk_plan.specs.Channel.{Channel, channel_step, channel_after}
 use Rattle.nk_plan.specs.Enabled.{channel_enabled}
-use Rattle.nk_drain.specs.Work.{half_lane, work, steps_left, Falls}
+use Rattle.nk_drain.specs.Work.{steps_left, Falls}
 
 -- an enabled step leaves less to do
 abbrev pub FallsLaw : Type 0
@@ -33,33 +32,3 @@ RoundLaw = (c : ChannelPlan) (xs steps : List Step) → Accepted c →
     let w = channel_after c steps in
     let w' = channel_after c (xs ++ steps) in
     (SomeEnabled c xs steps → steps_left c w' < steps_left c w) × ((SomeEnabled c xs steps → ⊥) → w' ≡ w)
-
--- no step adds work
-abbrev pub WorkLaw : Type 0
-WorkLaw = (c : ChannelPlan) (steps : List Step) (x : Step) → Accepted c →
-    let w = channel_after c steps in work c (channel_step c x w) ≤ work c w
-
--- a new channel has less than 2^24 to do
-abbrev pub StartLaw : Type 0
-StartLaw = (c : ChannelPlan) → Accepted c → work c (new_channel c) < 16777216
-
--- no hop has more pieces than the body of the response
-abbrev pub PiecesLaw : Type 0
-PiecesLaw = (c : ChannelPlan) (hop : ℕ) → Accepted c → length (pieces_at c hop) ≤ length (body_of c)
-
--- each lane is at most the work, whatever the channel
-abbrev pub WithinLaw : Type 0
-WithinLaw = (c : ChannelPlan) (w : Channel) →
-    (length (main_lane w) ≤ work c w)
-    × (length (half_lane w) ≤ work c w)
-    × (length (back_lane w) ≤ work c w)
-    × (length (up_lane w) ≤ work c w)
-
--- so each lane stays short
-abbrev pub RoomLaw : Type 0
-RoomLaw = (c : ChannelPlan) (steps : List Step) → Accepted c →
-    let w = channel_after c steps in
-    (length (main_lane w) < 16777216)
-    × (length (half_lane w) < 16777216)
-    × (length (back_lane w) < 16777216)
-    × (length (up_lane w) < 16777216)

@@ -1,9 +1,8 @@
 -- How many steps a channel has left at most. Its work is a sum that no step raises; a step that leaves the work as it is
 -- passes on the turn of the child's queue, and so lowers the queue's number. This project's own; any other measure that
 -- every step lowers would do as well.
-use Rattle.std.specs.Prelude.{ℕ, suc, ◌≡◌, ◌+◌, ◌-◌, ◌*◌, ◌<◌, ◌⊎◌, ◌==◌, Bool, true, false, if◌then◌else◌, List, [], ◌∷◌, length, drop, Option, Some, None}
+use Rattle.std.specs.Prelude.{ℕ, suc, ◌≡◌, ◌+◌, ◌-◌, ◌*◌, ◌<◌, ◌⊎◌, ◌==◌, Bool, true, false, if◌then◌else◌, List, [], ◌∷◌, length, Option, Some, None}
 use Rattle.nk_base.specs.declared.status.Target.{Target}
-use Rattle.nk_base.specs.declared.message.BackMsg.{BackMsg}
 use Rattle.nk_base.specs.Queue.{Queue, target_number, target_in}
 use Rattle.nk_plan.specs.declared.plan.ChannelPlan.{ChannelPlan}
 use Rattle.nk_plan.specs.declared.event.ChildEvent.{ChildEvent}
@@ -12,11 +11,10 @@ use Rattle.nk_plan.specs.declared.step.Phase.{Phase}
 use Rattle.nk_plan.specs.declared.step.Phase.TheVariants.{Closed, Ready, Asking, Follow, Body, Done}
 use Rattle.nk_plan.specs.Accepted.{body_of}
 use Rattle.nk_plan.specs.Event.{class_of}
-use Rattle.nk_plan.specs.Journal.{backs_sent}
 use Rattle.nk_plan.specs.Plan.{pieces_at}
 use Rattle.nk_plan.specs.Parent.{ParentState}
 use Rattle.nk_plan.specs.Child.{ChildState, Hold}
-use Rattle.nk_plan.specs.Channel.{Channel, main_lane, back_lane, up_lane}
+use Rattle.nk_plan.specs.Channel.{Channel, main_lane, back_lane, up_lane, half_lane}
 
 -- WORK. Each thing that is still to be taken weighs more than all that the step which takes it may bring.
 
@@ -89,10 +87,6 @@ fetches_in c Done h k = 0
 
 abbrev pub fetches_left : ChannelPlan → ParentState → ℕ
 fetches_left c p = fetches_in c p.phase p.hop p.piece
-
--- what the parent's background half has not yet moved on
-abbrev pub half_lane : Channel → List BackMsg
-half_lane w = drop w.forwarded (backs_sent w.parent.journal)
 
 -- a fetch sends at most one message on each of the two down lanes; a message of the main lane offers at most two events
 abbrev pub work : ChannelPlan → Channel → ℕ

@@ -1,7 +1,7 @@
 // The laws of the drain. A law is a function that does nothing: its contract is what is proved, for every plan and every
 // order of steps.
 
-ghost use Rattle.nk_drain.specs.Laws.{FallsLaw, IdleLaw, LeftLaw, PiecesLaw, WithinLaw, RoomLaw, RoundLaw, StartLaw, WorkLaw};
+ghost use Rattle.nk_drain.specs.Laws.{FallsLaw, IdleLaw, LeftLaw, RoundLaw};
 
 /// Each step that is enabled leaves a channel less to do: its work falls, or stays while its queue's
 /// number falls. So one number falls with each such step, and with each round that has one.
@@ -14,14 +14,4 @@ pub fn falls_law()
 /// A step that is not enabled changes nothing.
 pub fn idle_law()
     ensures { IdleLaw }
-{}
-
-/// What a channel has to do bounds its lanes, and is never more than at the start; no hop has more
-/// pieces than the body.
-pub fn room_law()
-    ensures pieces { PiecesLaw }
-    ensures work { WorkLaw }
-    ensures start { StartLaw }
-    ensures lanes { WithinLaw }
-    ensures room { RoomLaw }
 {}

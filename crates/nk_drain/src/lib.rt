@@ -4,4 +4,4 @@
 
 mod laws;
 
-pub use laws::{falls_law, idle_law, room_law};
+pub use laws::{falls_law, idle_law};

@@ -18,7 +18,8 @@ use Rattle.nk_script.specs.Responses.{ResponseParts}
 use Rattle.nk_script.specs.Lines.{IsHopLine, IsListenerLine}
 use Rattle.nk_script.specs.Order.{allows}
 use Rattle.nk_script.specs.Texts.{words}
-use Rattle.nk_script.specs.Draft.{start, after, new_response, plans_of, rounded_up}
+use Rattle.nk_script.specs.Draft.{start, after, new_response, plans_of}
+use Rattle.nk_plan.specs.Accepted.{rounded_up}
 use Rattle.nk_gen.specs.Made.{redirect_lines}
 use Rattle.nk_gen_law.proofs.Cuts.{join}
 use Rattle.nk_gen_law.proofs.Spellings.{decimal_read, spelled_302, spelled_200, spelled_4096, spelled_16, spelled_2}

@@ -1,8 +1,7 @@
 -- The failure that is kept is one.
 use Rattle.std.proofs.Common.{◌≡◌, ◌||◌, refl, Bool, true, false, if◌then◌else◌, Option, Some, None}
 use Rattle.nk_base.specs.declared.status.Status.{Status}
-use Rattle.nk_base.specs.Status.{is_failure, is_legal_status}
-use Rattle.nk_plan.specs.Failure.{merged, kept_status}
+use Rattle.nk_base.specs.Status.{is_failure, is_legal_status, merged, kept_status}
 
 abbrev pub IsKept : Option Status → Type 0
 IsKept None = Unit {0}

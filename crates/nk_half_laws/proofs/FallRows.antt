@@ -25,7 +25,7 @@ use Rattle.nk_plan.specs.declared.event.ChildEvent.TheVariants.{Start, Bytes, St
 use Rattle.nk_plan.specs.declared.journal.ChildEntry.{ChildEntry}
 use Rattle.nk_plan.specs.declared.journal.ChildEntry.TheVariants as child
 use Rattle.nk_plan.specs.Event.{class_of}
-use Rattle.nk_plan.specs.Failure.{merged, kept_status}
+use Rattle.nk_base.specs.Status.{merged, kept_status}
 use Rattle.nk_plan.specs.Plan.{stop_trailers}
 use Rattle.nk_plan.specs.Child.{ChildState, with_entry, run_bytes, cancel_messages, run_event, offer_event, offer_all, call_suspend, call_resume, call_cancel, refusal, call_retarget, is_empty, call_break, perform_call, note_report, note_redirect, step_main, back_events_of, keep_back, is_among, back_hop, hold_back, step_back, react, react_all, bytes_failure, prepend_cancel, fail_data, end_forced, finish_event}
 use Rattle.nk_half_laws.specs.Work.{event_work, flush_work, posted_work, queue_work, spent}

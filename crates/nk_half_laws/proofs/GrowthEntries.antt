@@ -6,10 +6,9 @@ use Rattle.nk_base.specs.declared.message.BackMsg.{BackMsg}
 use Rattle.nk_base.specs.declared.message.UpMsg.{UpMsg}
 use Rattle.nk_base.specs.declared.message.UpMsg.TheVariants as up
 use Rattle.nk_base.specs.declared.message.Entry.{Entry}
-use Rattle.nk_base.specs.Status.{is_failure}
+use Rattle.nk_base.specs.Status.{is_failure, merged, kept_status}
 use Rattle.nk_plan.specs.declared.plan.ChannelPlan.{ChannelPlan}
 use Rattle.nk_plan.specs.declared.journal.ChildEntry.{ChildEntry}
-use Rattle.nk_plan.specs.Failure.{merged, kept_status}
 use Rattle.nk_plan.specs.Journal.{main_in, mains_taken, back_in, backs_taken}
 use Rattle.nk_plan.specs.Telling.{Telling, sends_at, telling_after, sends_from}
 use Rattle.nk_plan.specs.Child.{ChildState, cancel_messages}

@@ -11,7 +11,7 @@ use Rattle.nk_base.specs.declared.message.BackMsg.TheVariants as back
 use Rattle.nk_base.specs.declared.message.UpMsg.{UpMsg}
 use Rattle.nk_base.specs.declared.message.UpMsg.TheVariants as up
 use Rattle.nk_base.specs.declared.message.Entry.TheVariants as shown
-use Rattle.nk_base.specs.Status.{is_failure}
+use Rattle.nk_base.specs.Status.{is_failure, merged, kept_status}
 use Rattle.nk_base.specs.Queue.{Taken, Event, Over, Ended, same_target, running_now, cleared, taken}
 use Rattle.nk_plan.specs.declared.plan.ChannelPlan.{ChannelPlan}
 use Rattle.nk_plan.specs.declared.plan.StartLane.{StartLane}
@@ -27,7 +27,6 @@ use Rattle.nk_plan.specs.declared.journal.ChildEntry.TheVariants as child
 use Rattle.nk_plan.specs.declared.step.ChildStep.{ChildStep}
 use Rattle.nk_plan.specs.declared.step.ChildStep.TheVariants as step
 use Rattle.nk_plan.specs.Event.{class_of}
-use Rattle.nk_plan.specs.Failure.{merged, kept_status}
 use Rattle.nk_plan.specs.Plan.{stop_trailers}
 use Rattle.nk_plan.specs.Child.{ChildState, run_bytes, cancel_messages, run_event, offer_event, offer_all, with_entry, call_suspend, call_resume, call_cancel, refusal, call_retarget, is_empty, call_break, perform_call, perform_control, step_act, verdict_status, step_verdict, note_main, main_events_of, step_main, keep_back, back_hop, back_events_of, back_events, is_among, hold_back, step_back, of_hop, released_hold, step_release, flush_with, step_begin, react, react_all, bytes_failure, prepend_cancel, fail_data, finish_event, step_finish, child_step, child_after}
 use Rattle.nk_half_laws.specs.Growth.{shapes, told, hop_after, owed_by, telling_of, mains_of, backs_of, Adds, GrowthLaw, ToldLaw}

@@ -3,6 +3,7 @@ pub mod ChildFalls
 pub mod ChildRest
 pub mod ChildRoom
 pub mod CombinedFalls
+pub mod DataEnds
 pub mod Failures
 pub mod FallExamples
 pub mod FallRows

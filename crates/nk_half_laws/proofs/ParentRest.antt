@@ -2,7 +2,7 @@
 use Rattle.std.proofs.Common.{ℕ, suc, ◌≡◌, ◌<◌, ◌↔◌, ◌∙◌, refl, sym, ap, List, [], ◌∷◌, ◌++◌, length, Bool, true, false, not, ◌&&◌, ◌||◌, if◌then◌else◌, Option, Some, None, is_some, ◌==◌, slice_get, pos, int_lt, ◌≤ℤ◌, ◌-ℤ◌, ℤ, arith}
 use Rattle.std.proofs.lemmas.Int.{ints}
 use Rattle.nk_base.specs.declared.status.Status.{Status}
-use Rattle.nk_base.specs.Status.{ok, redirect_loop}
+use Rattle.nk_base.specs.Status.{ok, redirect_loop, or_else, kept_status}
 use Rattle.nk_base.specs.declared.field.Head.{Head}
 use Rattle.nk_base.specs.declared.message.MainMsg.TheVariants as main
 use Rattle.nk_base.specs.declared.message.BackMsg.TheVariants as back
@@ -21,7 +21,6 @@ use Rattle.nk_plan.specs.declared.step.ParentStep.{ParentStep}
 use Rattle.nk_plan.specs.declared.step.ParentStep.TheVariants as parent
 use Rattle.nk_plan.specs.declared.step.Phase.{Phase}
 use Rattle.nk_plan.specs.declared.step.Phase.TheVariants.{Closed, Ready, Asking, Follow, Body, Done}
-use Rattle.nk_plan.specs.Failure.{or_else, kept_status}
 use Rattle.nk_plan.specs.Journal.{is_true, ups_taken}
 use Rattle.nk_plan.specs.Plan.{hop_at, pieces_at}
 use Rattle.nk_plan.specs.Parent.{ParentState, opened_phase, awaits_verdict, take_up, with_taken, start_entries, give_start, bare_head, stop_entry, offset_of, fetch_finish, fetch_piece, fetch_body, fetch_redirect, fetch_hop, complete_redirect, fetch_follow, fetch_in, parent_step, parent_after}

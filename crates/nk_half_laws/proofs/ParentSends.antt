@@ -15,7 +15,7 @@ use Rattle.nk_base.specs.declared.message.UpMsg.TheVariants as up
 use Rattle.nk_base.specs.Heads.{IsGoodHead}
 use Rattle.nk_base.specs.Pieces.{IsPiece}
 use Rattle.nk_base.specs.Ranges.{IsHop, IsRedirectCode, IsMainInRange, IsBackInRange, AreTrailers}
-use Rattle.nk_base.specs.Status.{ok, redirect_loop, is_legal_status}
+use Rattle.nk_base.specs.Status.{ok, redirect_loop, is_legal_status, merged, kept_status}
 use Rattle.nk_plan.specs.declared.plan.ChannelPlan.{ChannelPlan}
 use Rattle.nk_plan.specs.declared.plan.StartLane.{StartLane}
 use Rattle.nk_plan.specs.declared.plan.StartLane.TheVariants as lane
@@ -30,7 +30,6 @@ use Rattle.nk_plan.specs.declared.step.Phase.TheVariants.{Closed, Ready, Asking,
 use Rattle.nk_plan.specs.declared.step.ParentStep.{ParentStep}
 use Rattle.nk_plan.specs.declared.step.ParentStep.TheVariants as step
 use Rattle.nk_plan.specs.Accepted.{Accepted, IsGoodHop, IsGoodFinish, body_of}
-use Rattle.nk_plan.specs.Failure.{merged, kept_status}
 use Rattle.nk_plan.specs.Journal.{mains_sent, backs_sent}
 use Rattle.nk_plan.specs.Plan.{hop_at, hop_pieces, pieces_at, stop_trailers}
 use Rattle.nk_plan.specs.Parent.{ParentState, opened_phase, kept_after_cancel, awaits_verdict, take_up, with_taken, start_entries, give_start, bare_head, stop_entry, offset_of, fetch_finish, fetch_piece, fetch_body, fetch_redirect, fetch_hop, complete_redirect, fetch_follow, fetch_in, parent_step, parent_after}

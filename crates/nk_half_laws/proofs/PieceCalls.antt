@@ -14,7 +14,7 @@ use Rattle.nk_plan.specs.declared.plan.Reaction.TheVariants as reaction
 use Rattle.nk_plan.specs.declared.event.ChildEvent.{ChildEvent}
 use Rattle.nk_plan.specs.declared.event.ChildEvent.TheVariants.{Start, Bytes, Stop, Redirect1, Redirect3, Cancel}
 use Rattle.nk_plan.specs.declared.journal.ChildEntry.TheVariants as child
-use Rattle.nk_plan.specs.Failure.{merged}
+use Rattle.nk_base.specs.Status.{merged}
 use Rattle.nk_plan.specs.Child.{ChildState, with_entry, offer_all, call_suspend, call_resume, call_cancel, refusal, call_retarget, is_empty, call_break, perform_call, react, react_all, bytes_failure, prepend_cancel, fail_data, finish_event, step_finish}
 use Rattle.nk_half_laws.proofs.Tools.{keeps_if}
 use Rattle.nk_half_laws.specs.Pieces.{data_left}

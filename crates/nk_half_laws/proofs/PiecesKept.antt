@@ -6,7 +6,7 @@ use Rattle.nk_base.specs.declared.status.Target.{Target}
 use Rattle.nk_base.specs.declared.message.Entry.{Entry}
 use Rattle.nk_plan.specs.declared.journal.ChildEntry.{ChildEntry}
 use Rattle.nk_plan.specs.declared.journal.ChildEntry.TheVariants as child
-use Rattle.nk_plan.specs.Failure.{merged}
+use Rattle.nk_base.specs.Status.{merged}
 use Rattle.nk_plan.specs.Journal.{back_in, backs_taken}
 use Rattle.nk_plan.specs.Child.{ChildState}
 use Rattle.nk_half_laws.specs.Pieces.{shown_weight, message_weight, drop_weight, data_left}

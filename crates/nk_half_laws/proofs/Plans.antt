@@ -39,12 +39,12 @@ AsResponse (Some (hop.Redirect code verdict)) = ⊥
 AsResponse (Some (hop.Response head pieces end trailers)) = Unit {0}
 
 -- each hop before the last is a redirect
-leads : (c : ChannelPlan) (h : ℕ) (x : Hop) → Accepted c → suc h < length c.hops → hop_at c h ≡ Some x → IsRedirect x
+pub leads : (c : ChannelPlan) (h : ℕ) (x : Hop) → Accepted c → suc h < length c.hops → hop_at c h ≡ Some x → IsRedirect x
 leads c h x a l e =
     item_before IsRedirect (length c.hops - 1) c.hops a.leads (omega arith) h x (omega arith) e
 
 -- the hop behind which there is none is the last
-is_last : (c : ChannelPlan) (h : ℕ) (x : Hop) → length c.hops ≤ suc h → hop_at c h ≡ Some x → last_of c.hops ≡ Some x
+pub is_last : (c : ChannelPlan) (h : ℕ) (x : Hop) → length c.hops ≤ suc h → hop_at c h ≡ Some x → last_of c.hops ≡ Some x
 is_last c h x l e =
     let b : suc h ≤ length c.hops = before_end c.hops h x e in
     let n : length c.hops - 1 ≡ h = omega arith in

@@ -9,7 +9,7 @@ use Rattle.nk_base.specs.declared.message.UpMsg.{UpMsg}
 use Rattle.nk_base.specs.declared.message.UpMsg.TheVariants as up
 use Rattle.nk_base.specs.Queue.{cleared, same_target}
 use Rattle.nk_base.specs.Ranges.{IsUpInRange}
-use Rattle.nk_base.specs.Status.{is_failure}
+use Rattle.nk_base.specs.Status.{is_failure, merged}
 use Rattle.nk_plan.specs.declared.plan.ChannelPlan.{ChannelPlan}
 use Rattle.nk_plan.specs.declared.plan.Reaction.{Reaction}
 use Rattle.nk_plan.specs.declared.plan.Reaction.TheVariants as reaction
@@ -19,7 +19,6 @@ use Rattle.nk_plan.specs.declared.event.ChildEvent.{ChildEvent}
 use Rattle.nk_plan.specs.declared.event.ChildEvent.TheVariants.{Start, Bytes, Stop, Redirect1, Redirect3, Cancel}
 use Rattle.nk_plan.specs.declared.journal.ChildEntry.TheVariants as child
 use Rattle.nk_plan.specs.Accepted.{IsGoodAct, IsGoodReaction}
-use Rattle.nk_plan.specs.Failure.{merged}
 use Rattle.nk_plan.specs.Child.{ChildState, with_entry, offer_all, call_suspend, call_resume, call_cancel, refusal, call_retarget, is_empty, call_break, perform_call, react, react_all, bytes_failure, prepend_cancel, fail_data, finish_event, step_finish}
 use Rattle.nk_half_laws.proofs.Tools.{keeps_if, only}
 use Rattle.nk_half_laws.proofs.Failures.{IsKept, merged_kept}

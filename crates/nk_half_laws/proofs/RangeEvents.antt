@@ -8,11 +8,10 @@ use Rattle.nk_base.specs.declared.message.UpMsg.{UpMsg}
 use Rattle.nk_base.specs.declared.message.UpMsg.TheVariants as up
 use Rattle.nk_base.specs.Queue.{running_now}
 use Rattle.nk_base.specs.Ranges.{IsHop, IsReadCount, IsBackInRange, IsUpInRange}
-use Rattle.nk_base.specs.Status.{is_failure}
+use Rattle.nk_base.specs.Status.{is_failure, merged}
 use Rattle.nk_plan.specs.declared.plan.ChannelPlan.{ChannelPlan}
 use Rattle.nk_plan.specs.declared.event.ChildEvent.{ChildEvent}
 use Rattle.nk_plan.specs.declared.event.ChildEvent.TheVariants.{Start, Bytes, Stop, Redirect1, Redirect3, Cancel}
-use Rattle.nk_plan.specs.Failure.{merged}
 use Rattle.nk_plan.specs.Child.{ChildState, run_bytes, cancel_messages, run_event, offer_event, offer_all}
 use Rattle.nk_half_laws.proofs.Tools.{only}
 use Rattle.nk_half_laws.proofs.Failures.{IsKept, merged_kept}

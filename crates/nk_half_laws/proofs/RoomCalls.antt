@@ -8,7 +8,7 @@ use Rattle.nk_base.specs.declared.status.RetargetError.{RetargetError}
 use Rattle.nk_base.specs.declared.message.UpMsg.{UpMsg}
 use Rattle.nk_base.specs.declared.message.UpMsg.TheVariants as up
 use Rattle.nk_base.specs.Queue.{cleared}
-use Rattle.nk_base.specs.Status.{is_failure}
+use Rattle.nk_base.specs.Status.{is_failure, merged}
 use Rattle.nk_plan.specs.declared.plan.ChannelPlan.{ChannelPlan}
 use Rattle.nk_plan.specs.declared.plan.Act.{Act}
 use Rattle.nk_plan.specs.declared.plan.Act.TheVariants as act
@@ -16,7 +16,6 @@ use Rattle.nk_plan.specs.declared.event.ChildEvent.{ChildEvent}
 use Rattle.nk_plan.specs.declared.event.ChildEvent.TheVariants.{Start, Stop}
 use Rattle.nk_plan.specs.declared.journal.ChildEntry.TheVariants as child
 use Rattle.nk_plan.specs.Accepted.{IsGoodAct}
-use Rattle.nk_plan.specs.Failure.{merged}
 use Rattle.nk_plan.specs.Child.{ChildState, with_entry, offer_all, call_suspend, call_resume, call_cancel, refusal, call_retarget, is_empty, call_break, perform_call}
 use Rattle.nk_half_laws.specs.Capacity.{until, cancels_left, suspends_left}
 use Rattle.nk_half_laws.proofs.Tools.{keeps_if, second_false, none_of, one_or_none, one_more}

@@ -16,7 +16,8 @@ use Rattle.nk_plan.specs.declared.step.ChildStep.{ChildStep}
 use Rattle.nk_plan.specs.declared.step.ChildStep.TheVariants.{Act, Main, Back, Begin, Finish}
 use Rattle.nk_plan.specs.Accepted.{plan_of}
 use Rattle.nk_plan.specs.Child.{child_after}
-use Rattle.nk_half_laws.specs.Capacity.{main_capacity, inner_capacity, back_capacity, delivery_capacity, up_capacity, ups_left, shown_left}
+use Rattle.nk_half_laws.specs.Capacity.{ups_left, shown_left}
+use Rattle.nk_plan.specs.Capacity.{main_capacity, inner_capacity, back_capacity, delivery_capacity, up_capacity}
 
 refused : Status
 refused = record { 0 = 0x804b000d }

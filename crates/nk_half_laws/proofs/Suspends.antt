@@ -13,7 +13,7 @@ use Rattle.nk_plan.specs.declared.event.ChildEvent.TheVariants.{Start, Bytes, St
 use Rattle.nk_plan.specs.declared.journal.ChildEntry.{ChildEntry}
 use Rattle.nk_plan.specs.declared.journal.ChildEntry.TheVariants as child
 use Rattle.nk_plan.specs.declared.step.ChildStep.{ChildStep}
-use Rattle.nk_plan.specs.Failure.{or_else}
+use Rattle.nk_base.specs.Status.{or_else}
 use Rattle.nk_plan.specs.Journal.{is_true}
 use Rattle.nk_plan.specs.Telling.{Telling, sends_at, telling_after, sends_from}
 use Rattle.nk_plan.specs.Child.{ChildState, child_step, child_after}

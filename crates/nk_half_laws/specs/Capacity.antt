@@ -11,26 +11,8 @@ use Rattle.nk_plan.specs.Accepted.{Accepted, body_of}
 use Rattle.nk_plan.specs.Journal.{mains_taken, backs_taken, mains_sent, backs_sent}
 use Rattle.nk_plan.specs.Parent.{parent_after}
 use Rattle.nk_plan.specs.Child.{ChildState, child_after}
+use Rattle.nk_plan.specs.Capacity.{main_capacity, inner_capacity, back_capacity, delivery_capacity, up_capacity}
 use Rattle.nk_half_laws.specs.Sums.{sum_of}
-
--- THE RINGS OF A CHANNEL, by how much can be sent on each in all
-
--- the main lane; from the parent to its background half, and on from there to the child
-abbrev pub main_capacity : ChannelPlan → ℕ
-main_capacity c = 2 * length c.hops + 2
-
-abbrev pub inner_capacity : ChannelPlan → ℕ
-inner_capacity c = length (body_of c) + 4
-
-abbrev pub back_capacity : ChannelPlan → ℕ
-back_capacity c = length (body_of c) + 5
-
--- from the child to the listener, and the up lane
-abbrev pub delivery_capacity : ChannelPlan → ℕ
-delivery_capacity c = 4 * length c.hops + length (body_of c) + 16
-
-abbrev pub up_capacity : ChannelPlan → ℕ
-up_capacity c = 4 * length c.hops + length (body_of c) + 2 * length c.controls + 24
 
 -- WHAT A CHILD MAY STILL SEND AND SHOW, of what it has taken and of its plan. With what was sent and shown, each sum stays
 -- within what the messages that were taken and the plan allow; any other sums that the steps keep so would do as well.

@@ -1,6 +1,7 @@
 pub mod Capacity
 pub mod Falls
 pub mod Growth
+pub mod Offsets
 pub mod Pieces
 pub mod Ranges
 pub mod Settled

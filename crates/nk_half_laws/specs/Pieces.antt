@@ -13,7 +13,7 @@ use Rattle.nk_plan.specs.declared.event.ChildEvent.TheVariants.{Start, Bytes, St
 use Rattle.nk_plan.specs.declared.journal.ChildEntry.{ChildEntry}
 use Rattle.nk_plan.specs.declared.journal.ChildEntry.TheVariants as child
 use Rattle.nk_plan.specs.declared.step.ChildStep.{ChildStep}
-use Rattle.nk_plan.specs.Failure.{is_failure}
+use Rattle.nk_base.specs.Status.{is_failure}
 use Rattle.nk_plan.specs.Journal.{is_data, count_of, backs_taken}
 use Rattle.nk_plan.specs.Child.{ChildState, child_after}
 use Rattle.nk_half_laws.specs.Sums.{sum_of}

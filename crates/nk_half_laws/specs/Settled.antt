@@ -10,7 +10,7 @@ use Rattle.nk_plan.specs.declared.journal.ParentEntry.{ParentEntry}
 use Rattle.nk_plan.specs.declared.step.ChildStep.{ChildStep}
 use Rattle.nk_plan.specs.declared.step.Phase.{Phase}
 use Rattle.nk_plan.specs.declared.step.Phase.TheVariants.{Closed, Ready, Asking, Follow, Body, Done}
-use Rattle.nk_plan.specs.Failure.{or_else}
+use Rattle.nk_base.specs.Status.{or_else}
 use Rattle.nk_plan.specs.Journal.{is_true, ups_taken}
 use Rattle.nk_plan.specs.Plan.{pieces_at}
 use Rattle.nk_plan.specs.Child.{ChildState, child_after}

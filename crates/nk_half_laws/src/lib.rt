@@ -7,6 +7,7 @@
 pub mod capacity;
 pub mod falls;
 pub mod growth;
+pub mod offsets;
 pub mod pieces;
 pub mod ranges;
 pub mod settled;

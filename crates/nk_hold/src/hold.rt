@@ -1,6 +1,6 @@
 // The hold of one channel, which its child keeps.
 
-ghost use Rattle.std.specs.Prelude.{◌≡◌, ◌≤◌, ◌<◌, ◌++◌, ◌+◌, length, OnOk, [], ◌∷◌};
+ghost use Rattle.std.specs.Prelude.{◌≡◌, ◌≤◌, ◌<◌, ◌++◌, ◌+◌, length, OnOk, OnErr, [], ◌∷◌};
 ghost use Rattle.std.specs.VecDeque.{deque_len, deque_capacity};
 ghost use Rattle.nk_base.specs.Hold.{back_hop, hold_with, reporting, of_hop, not_of_hop};
 ghost use Rattle.nk_hold.specs.RoomyHold.{RoomyHold};
@@ -116,11 +116,12 @@ impl Hold {
         }
     }
 
-    /// Makes room for n messages more than are kept, to be kept and to be released.
+    /// Makes room for n messages more than are kept, to be kept and to be released. On want of memory the hold is as before.
     pub fn reserve(&mut self, n: usize) -> Result<(), Memory>
         ensures state { self.new.state ≡ self.old.state }
         ensures spare { self.old.spare ≤ self.new.spare }
         ensures ok { OnOk result (n ≤ self.new.spare) }
+        ensures err { OnErr result (self.new ≡ self.old) }
     {
         if self.kept.reserve(n).is_err() || self.leaving.reserve(n).is_err() {
             return Err(Memory);

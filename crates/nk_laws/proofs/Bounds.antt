@@ -29,7 +29,7 @@ use Rattle.nk_plan.specs.declared.journal.ChildEntry.TheVariants as child
 use Rattle.nk_plan.specs.declared.step.ChildStep.{ChildStep}
 use Rattle.nk_plan.specs.declared.step.ChildStep.TheVariants as step
 use Rattle.nk_plan.specs.Event.{class_of}
-use Rattle.nk_plan.specs.Failure.{merged}
+use Rattle.nk_base.specs.Status.{merged}
 use Rattle.nk_plan.specs.Child.{ChildState, run_bytes, run_event, offer_event, offer_all, with_entry, call_suspend, call_resume, call_cancel, refusal, call_retarget, is_empty, call_break, perform_call, perform_control, step_act, verdict_status, step_verdict, note_main, main_events_of, step_main, back_hop, back_events_of, back_events, is_among, hold_back, step_back, of_hop, released_hold, step_release, flush_with, runs_on, step_begin, react, react_all, bytes_failure, prepend_cancel, fail_data, finish_event, step_finish, child_step, child_after}
 use Rattle.nk_laws.proofs.Tools.{keeps_if}
 use Rattle.nk_laws.proofs.Lively.{none_posted}

@@ -19,13 +19,12 @@ use Rattle.nk_plan.specs.declared.plan.StartLane.{StartLane}
 use Rattle.nk_plan.specs.declared.plan.Hop.{Hop}
 use Rattle.nk_base.specs.declared.status.Status.{Status}
 use Rattle.nk_base.specs.declared.field.Head.{Head}
-use Rattle.nk_base.specs.Status.{redirect_loop, is_failure, ok}
+use Rattle.nk_base.specs.Status.{redirect_loop, is_failure, ok, kept_status}
 use Rattle.nk_plan.specs.Plan.{hop_at, hop_pieces, EndsWell, stop_trailers, hop_code}
 use Rattle.nk_laws.proofs.ParentLaw.{lane_law}
 use borrow.Author.Tests.{ltb-true}
 use Rattle.std.proofs.lemmas.Bool.{leb-true, le-leb, eqb-true, eq-eqb}
 use Rattle.nk_laws.proofs.Tools.{keeps_if, among_more, le_or_more}
-use Rattle.nk_plan.specs.Failure.{kept_status}
 use Rattle.nk_plan.specs.declared.event.ChildEvent.{ChildEvent}
 use Rattle.nk_plan.specs.declared.event.ChildEvent.TheVariants.{Start as StartEvent, Stop as StopEvent, Bytes as BytesEvent, Redirect1 as Redirect1Event, Redirect3 as Redirect3Event, Cancel as CancelEvent}
 use Rattle.nk_laws.proofs.Order.{Around, Holds, AtHop, InBody, AtEnd}

@@ -11,10 +11,9 @@ use Rattle.nk_plan.specs.declared.plan.ChannelPlan.{ChannelPlan}
 use Rattle.nk_plan.specs.declared.plan.Reaction.{Reaction}
 use Rattle.nk_plan.specs.declared.plan.Act.{Act}
 use Rattle.nk_plan.specs.declared.journal.ChildEntry.{ChildEntry}
-use Rattle.nk_base.specs.Status.{ok, is_failure}
+use Rattle.nk_base.specs.Status.{ok, is_failure, kept_status, merged, failure, or_else}
 use Rattle.nk_plan.specs.Plan.{hop_at, hop_pieces, EndsWell, stop_trailers}
 use Rattle.nk_plan.specs.Trace.{SeqTrace}
-use Rattle.nk_plan.specs.Failure.{kept_status, merged, failure, or_else}
 use Rattle.nk_plan.specs.Parent.{size_of}
 use Rattle.nk_base.specs.Queue.{Taken, Event, Over, Ended, same_target, is_target, target_in, runs_now, has_some, running_now, appended, completed, cleared, taken}
 use Rattle.nk_plan.specs.Journal.{failure_in, first, is_redirect3, final, opening_in, is_true, cut, main_in, back_in}

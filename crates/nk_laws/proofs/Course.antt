@@ -10,10 +10,9 @@ use Rattle.nk_base.specs.declared.message.Entry.{Entry}
 use Rattle.nk_plan.specs.declared.plan.ChannelPlan.{ChannelPlan}
 use Rattle.nk_plan.specs.declared.plan.Reaction.{Reaction}
 use Rattle.nk_plan.specs.declared.plan.Control.{Control}
-use Rattle.nk_base.specs.Status.{ok, is_failure}
+use Rattle.nk_base.specs.Status.{ok, is_failure, kept_status, merged}
 use Rattle.nk_plan.specs.Plan.{stop_trailers}
 use Rattle.nk_laws.proofs.Premises.{EndsByFailure}
-use Rattle.nk_plan.specs.Failure.{kept_status, merged}
 use Rattle.nk_base.specs.Queue.{Taken, Event, Over, Ended, same_target, is_target, target_number, target_in, runs_now, has_some, running_now, appended, completed, taken}
 use Rattle.nk_plan.specs.declared.plan.StartLane.{StartLane}
 use Rattle.nk_plan.specs.Child.{main_events_of, note_main, step_main, back_hop, back_events_of, back_events, is_among, hold_back, step_back, of_hop, released_hold, step_release, ChildState, run_bytes, run_event, offer_event, offer_all, with_entry, call_cancel, refusal, call_retarget, perform_call, perform_control, step_act, step_verdict, flush_with, step_begin, runs_on, react_all, bytes_failure, prepend_cancel, fail_data, finish_event, step_finish, not_of_hop, verdict_status}

@@ -11,9 +11,8 @@ use Rattle.nk_plan.specs.declared.plan.Reaction.{Reaction}
 use Rattle.nk_plan.specs.declared.plan.Act.{Act}
 use Rattle.nk_plan.specs.declared.plan.Control.{Control}
 use Rattle.nk_plan.specs.declared.journal.ChildEntry.{ChildEntry}
-use Rattle.nk_base.specs.Status.{is_failure}
+use Rattle.nk_base.specs.Status.{is_failure, merged}
 use Rattle.nk_laws.proofs.Premises.{RangesOk}
-use Rattle.nk_plan.specs.Failure.{merged}
 use Rattle.nk_base.specs.Queue.{Taken, Event, Over, Ended, same_target, is_target, target_in, runs_now, has_some, running_now, appended, completed, cleared, taken}
 use Rattle.nk_plan.specs.Journal.{mains_taken, backs_taken}
 use Rattle.nk_plan.specs.declared.plan.StartLane.{StartLane}

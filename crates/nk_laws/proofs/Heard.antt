@@ -13,13 +13,12 @@ use Rattle.nk_plan.specs.declared.plan.Hop.{Hop}
 use Rattle.nk_plan.specs.declared.plan.Finish.{Finish as End}
 use Rattle.nk_base.specs.declared.status.Status.{Status}
 use Rattle.nk_base.specs.declared.field.Head.{Head}
-use Rattle.nk_base.specs.Status.{redirect_loop, is_failure}
+use Rattle.nk_base.specs.Status.{redirect_loop, is_failure, merged}
 use Rattle.nk_plan.specs.Plan.{hop_at}
 use Rattle.nk_plan.specs.declared.step.Phase.{Phase}
 use Rattle.nk_plan.specs.declared.step.Phase.TheVariants.{Closed, Ready, Asking, Follow, Body, Done}
 use Rattle.nk_laws.proofs.ParentLaw.{ups-append, mains-append, backs-append}
 use Rattle.nk_laws.proofs.Tools.{keeps_if, append_nil, among_more, among_last, among_split}
-use Rattle.nk_plan.specs.Failure.{merged}
 use Rattle.nk_plan.specs.declared.event.ChildEvent.{ChildEvent}
 use Rattle.nk_plan.specs.declared.event.ChildEvent.TheVariants.{Start as StartEvent, Stop as StopEvent, Bytes as BytesEvent, Redirect1 as Redirect1Event, Redirect3 as Redirect3Event, Cancel as CancelEvent}
 use Rattle.nk_laws.proofs.Order.{strip, stops, strip-append}

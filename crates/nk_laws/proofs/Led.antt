@@ -19,13 +19,12 @@ use Rattle.nk_plan.specs.declared.plan.Hop.{Hop}
 use Rattle.nk_plan.specs.declared.plan.Finish.{Finish as End}
 use Rattle.nk_base.specs.declared.status.Status.{Status}
 use Rattle.nk_base.specs.declared.field.Head.{Head}
-use Rattle.nk_base.specs.Status.{redirect_loop, is_failure, ok}
+use Rattle.nk_base.specs.Status.{redirect_loop, is_failure, ok, merged, kept_status}
 use Rattle.nk_plan.specs.Plan.{hop_at, hop_pieces}
 use Rattle.nk_plan.specs.declared.step.Phase.{Phase}
 use Rattle.nk_plan.specs.declared.step.Phase.TheVariants.{Closed, Ready, Asking, Follow, Body, Done}
 use Rattle.nk_laws.proofs.ParentLaw.{mains-append, backs-append, Law, Keeps, parent_keeps}
 use Rattle.nk_laws.proofs.Tools.{keeps_if}
-use Rattle.nk_plan.specs.Failure.{merged, kept_status}
 use Rattle.nk_plan.specs.declared.event.ChildEvent.{ChildEvent}
 use Rattle.nk_laws.specs.Moves.{Joined}
 use Rattle.nk_laws.proofs.Joined.{up_journal, joined, run_trace}

@@ -9,10 +9,9 @@ use Rattle.nk_plan.specs.declared.plan.ChannelPlan.{ChannelPlan}
 use Rattle.nk_plan.specs.declared.plan.Reaction.{Reaction}
 use Rattle.nk_plan.specs.declared.plan.Act.{Act}
 use Rattle.nk_plan.specs.declared.plan.Control.{Control}
-use Rattle.nk_base.specs.Status.{ok}
+use Rattle.nk_base.specs.Status.{ok, merged}
 use Rattle.nk_laws.proofs.Targets.{same_self, same_is}
 use Rattle.nk_laws.proofs.Premises.{RangesOk, ReactionsOk, WorkerOk}
-use Rattle.nk_plan.specs.Failure.{merged}
 use Rattle.nk_base.specs.Queue.{Queue, Taken, Event, Over, Ended, same_target, is_target, target_in, runs_now, is_busy, has_some, running_now, appended, suspended_once, resumed_once, completed, forced_once, prepended, cleared, taken, flush_ended, handed_over, target_number}
 use Rattle.nk_plan.specs.declared.plan.StartLane.{StartLane}
 use Rattle.nk_plan.specs.declared.step.ChildStep.{ChildStep}

@@ -10,8 +10,8 @@ use Rattle.nk_plan.specs.declared.step.Step.{Step}
 use Rattle.nk_plan.specs.Journal.{mains_taken, backs_taken, ups_taken, mains_sent, backs_sent}
 use Rattle.nk_plan.specs.Parent.{ParentState, parent_step}
 use Rattle.nk_plan.specs.Child.{ChildState, child_step}
-use Rattle.nk_plan.specs.Channel.{Channel, main_lane, up_lane, channel_after}
-use Rattle.nk_laws.specs.Moves.{Joined, ups_of, mains_of, backs_of, half_lane, ParentMoves, ChildMoves, HalfMoves, Moves}
+use Rattle.nk_plan.specs.Channel.{Channel, main_lane, up_lane, channel_after, half_lane}
+use Rattle.nk_laws.specs.Moves.{Joined, ups_of, mains_of, backs_of, ParentMoves, ChildMoves, HalfMoves, Moves}
 use Rattle.nk_laws.proofs.ParentLaw.{ups-append, mains-append, backs-append}
 use Rattle.nk_laws.proofs.Grows as child_side
 use Rattle.nk_laws.proofs.Blocks.{ParentEnters, parent_enters, ChildEnters, child_enters}

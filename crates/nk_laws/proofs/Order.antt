@@ -7,10 +7,9 @@ use Rattle.nk_base.specs.declared.message.BackMsg.{BackMsg}
 use Rattle.nk_base.specs.declared.message.Entry.{Entry}
 use Rattle.nk_plan.specs.declared.plan.ChannelPlan.{ChannelPlan}
 use Rattle.nk_plan.specs.declared.journal.ChildEntry.{ChildEntry}
-use Rattle.nk_base.specs.Status.{ok, is_failure}
+use Rattle.nk_base.specs.Status.{ok, is_failure, kept_status, merged, failure, or_else}
 use Rattle.nk_plan.specs.Plan.{hop_at, hop_code, hop_pieces, EndsWell}
 use Rattle.nk_plan.specs.Trace.{SeqTrace, Follows}
-use Rattle.nk_plan.specs.Failure.{kept_status, merged, failure, or_else}
 use Rattle.nk_plan.specs.Parent.{size_of}
 use Rattle.nk_plan.specs.Journal.{failure_in, first, is_redirect3, final, opening_in, opening, main_in, mains_taken, back_in, backs_taken}
 use Rattle.nk_plan.specs.declared.event.ChildEvent.{ChildEvent}

@@ -13,10 +13,9 @@ use Rattle.nk_plan.specs.declared.plan.Hop.{Hop}
 use Rattle.nk_plan.specs.declared.plan.Finish.{Finish}
 use Rattle.nk_plan.specs.declared.journal.ParentEntry.{ParentEntry}
 use Rattle.nk_plan.specs.declared.step.ParentStep.{ParentStep}
-use Rattle.nk_base.specs.Status.{ok, is_failure, redirect_loop}
+use Rattle.nk_base.specs.Status.{ok, is_failure, redirect_loop, kept_status, merged}
 use Rattle.nk_plan.specs.Plan.{hop_at, hop_code, hop_pieces, stop_trailers}
 use Rattle.nk_laws.proofs.Premises.{HopOk, FinishOk, PlanOk}
-use Rattle.nk_plan.specs.Failure.{kept_status, merged}
 use Rattle.nk_plan.specs.Parent.{size_of, ParentState, opened_phase, kept_after_cancel, awaits_verdict, start_entries, give_start, bare_head, offset_of, fetch_finish, fetch_piece, fetch_body, fetch_redirect, fetch_hop, fetch_follow, fetch_in, parent_step, parent_after}
 use Rattle.nk_plan.specs.declared.step.Phase.{Phase}
 use Rattle.nk_plan.specs.declared.step.Phase.TheVariants.{Closed, Ready, Asking, Follow, Body, Done}

@@ -10,9 +10,8 @@ use Rattle.nk_plan.specs.declared.plan.Reaction.{Reaction}
 use Rattle.nk_plan.specs.declared.plan.Act.{Act}
 use Rattle.nk_plan.specs.declared.plan.Control.{Control}
 use Rattle.nk_plan.specs.declared.journal.ChildEntry.{ChildEntry}
-use Rattle.nk_base.specs.Status.{redirect_loop}
+use Rattle.nk_base.specs.Status.{redirect_loop, merged}
 use Rattle.nk_plan.specs.Plan.{hop_at}
-use Rattle.nk_plan.specs.Failure.{merged}
 use Rattle.nk_plan.specs.Parent.{ParentState, start_entries, give_start, bare_head, fetch_finish, fetch_piece, fetch_body, fetch_redirect, fetch_hop, fetch_follow, fetch_in, parent_step, parent_after}
 use Rattle.nk_base.specs.Queue.{Taken, Event, Over, Ended, same_target, is_target, completed, cleared, taken}
 use Rattle.nk_plan.specs.declared.plan.StartLane.{StartLane}

@@ -13,7 +13,7 @@ use Rattle.nk_plan.specs.declared.plan.Control.{Control}
 use Rattle.nk_plan.specs.declared.journal.ChildEntry.{ChildEntry}
 use Rattle.nk_plan.specs.Plan.{hop_at, hop_pieces}
 use Rattle.nk_plan.specs.Trace.{SeqTrace, Follows}
-use Rattle.nk_plan.specs.Failure.{merged}
+use Rattle.nk_base.specs.Status.{merged}
 use Rattle.nk_base.specs.Queue.{Taken, Event, Over, Ended, same_target, is_target, runs_now, running_now, completed, cleared, taken}
 use Rattle.nk_plan.specs.Journal.{cut, is_open, is_suspend, is_resume, is_finish, count_of, has_open}
 use Rattle.nk_plan.specs.declared.plan.StartLane.{StartLane}

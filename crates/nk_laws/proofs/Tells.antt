@@ -11,7 +11,7 @@ use Rattle.nk_base.specs.declared.message.BackMsg.{BackMsg}
 use Rattle.nk_base.specs.declared.message.BackMsg.TheVariants as back
 use Rattle.nk_base.specs.declared.message.UpMsg.{UpMsg}
 use Rattle.nk_base.specs.declared.message.UpMsg.TheVariants as up
-use Rattle.nk_base.specs.Status.{is_failure}
+use Rattle.nk_base.specs.Status.{is_failure, or_else, merged, kept_status}
 use Rattle.nk_base.specs.Queue.{Taken, Event, Over, Ended, same_target, is_target, target_number, runs_now, running_now, cleared, completed, taken}
 use Rattle.nk_plan.specs.declared.plan.ChannelPlan.{ChannelPlan}
 use Rattle.nk_plan.specs.declared.plan.StartLane.{StartLane}
@@ -28,7 +28,6 @@ use Rattle.nk_plan.specs.declared.journal.ChildEntry.TheVariants as child
 use Rattle.nk_plan.specs.declared.step.ChildStep.{ChildStep}
 use Rattle.nk_plan.specs.declared.step.ChildStep.TheVariants as step
 use Rattle.nk_plan.specs.Event.{class_of}
-use Rattle.nk_plan.specs.Failure.{or_else, merged, kept_status}
 use Rattle.nk_plan.specs.Journal.{first, failure_in, final, is_redirect3, is_data, NoDataBehind}
 use Rattle.nk_plan.specs.Telling.{Telling, new_telling, sends_at, telling_after, sends_from}
 use Rattle.nk_plan.specs.Child.{ChildState, run_bytes, cancel_messages, run_event, offer_event, offer_all, with_entry, call_suspend, call_resume, call_cancel, refusal, call_retarget, is_empty, call_break, perform_call, perform_control, step_act, verdict_status, step_verdict, note_main, main_events_of, step_main, back_hop, back_events_of, back_events, is_among, hold_back, step_back, of_hop, released_hold, step_release, flush_with, runs_on, step_begin, react, react_all, bytes_failure, prepend_cancel, fail_data, finish_event, step_finish, child_step, child_after}

@@ -10,7 +10,7 @@ use Rattle.nk_plan.specs.declared.plan.ChannelPlan.{ChannelPlan}
 use Rattle.nk_plan.specs.declared.plan.Reaction.{Reaction}
 use Rattle.nk_plan.specs.declared.plan.Act.{Act}
 use Rattle.nk_plan.specs.declared.plan.Control.{Control}
-use Rattle.nk_plan.specs.Failure.{merged}
+use Rattle.nk_base.specs.Status.{merged}
 use Rattle.nk_base.specs.Queue.{Taken, Event, Over, Ended, same_target, is_target, runs_now, running_now, completed, cleared, taken}
 use Rattle.nk_plan.specs.declared.plan.StartLane.{StartLane}
 use Rattle.nk_plan.specs.declared.step.ChildStep.{ChildStep}

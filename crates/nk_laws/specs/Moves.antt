@@ -11,7 +11,7 @@ use Rattle.nk_plan.specs.declared.step.ChildStep.TheVariants as child
 use Rattle.nk_plan.specs.Journal.{ups_taken, mains_taken, backs_taken, mains_sent, backs_sent}
 use Rattle.nk_plan.specs.Parent.{ParentState, parent_step, parent_after}
 use Rattle.nk_plan.specs.Child.{ChildState, child_step, child_after}
-use Rattle.nk_plan.specs.Channel.{Channel, main_lane, back_lane, up_lane}
+use Rattle.nk_plan.specs.Channel.{Channel, main_lane, back_lane, up_lane, half_lane}
 use Rattle.nk_plan.specs.Lanes.{IsPrefix}
 
 -- both sides of a channel are runs of their tables, and each took what begins what the other sent
@@ -50,10 +50,6 @@ backs_of (child.Back m) false = m ∷ []
 backs_of child.Release broken = []
 backs_of (child.Begin t) broken = []
 backs_of (child.Finish t) broken = []
-
--- what the parent has sent on the background lane, and its background half has not moved on
-abbrev pub half_lane : Channel → List BackMsg
-half_lane w = drop w.forwarded (backs_sent w.parent.journal)
 
 -- a step of the parent adds what it sends to the end of a lane, and takes off the up lane what it takes
 pub record ParentMoves (w : Channel) (x : ParentStep) (s : ParentState) : Type 0 where

@@ -1,8 +1,6 @@
 -- What clauses see of a parent. This project's own.
 use Rattle.std.specs.Prelude.{ℕ, Bool, true, false, List, length, drop}
 use Rattle.std.specs.declared.alloc.Global.{Global}
-use Rattle.nk_base.specs.declared.status.Moved.{Moved}
-use Rattle.nk_base.specs.declared.status.Moved.TheVariants.{Did, Idle}
 use Rattle.nk_plan.specs.declared.plan.ChannelPlan.{ChannelPlan}
 use Rattle.nk_plan.specs.declared.step.Phase.{Phase}
 use Rattle.nk_plan.specs.declared.step.Phase.TheVariants.{Closed, Ready, Asking, Follow, Body, Done}
@@ -24,11 +22,6 @@ pub record LoadView : Type 0 where
 -- the entries that a step added to the journal
 abbrev pub added : ParentState → ParentState → List ParentEntry
 added old new = drop (length old.journal) new.journal
-
--- a step that is enabled is made
-abbrev pub moved_if : Bool → Moved
-moved_if true = Did
-moved_if false = Idle
 
 -- whether the page has opened the channel, or is done with it
 abbrev pub is_open : Phase → Bool

@@ -4,7 +4,7 @@ ghost use Rattle.std.specs.Prelude.{◌≡◌, ◌++◌, ◌∷◌, ◌<◌, ◌
 ghost use Rattle.nk_plan.specs.Accepted.{Accepted, body_of, last_of};
 ghost use Rattle.nk_plan.specs.Parent.{ParentState, new_parent, take_up};
 ghost use Rattle.nk_base.specs.declared.message.UpMsg.TheVariants as up;
-ghost use Rattle.nk_plan.specs.Failure.{kept_status};
+ghost use Rattle.nk_base.specs.Status.{kept_status};
 ghost use Rattle.nk_parent.specs.Load.{IsBody};
 
 use nk_base::{Grow, Memory, Status, UpMsg};
@@ -66,7 +66,6 @@ impl Model for Load {
 impl Load {
     /// The load of a plan, before its first step.
     pub fn new(alloc: Global, plan: ChannelPlan) -> Result<Load, Memory>
-        requires { Accepted plan }
         ensures plan { IfOk result (λ r. r.plan ≡ plan) }
         ensures state { IfOk result (λ r. r.state ≡ new_parent plan) }
         ensures alloc { IfOk result (λ r. r.alloc ≡ alloc) }
@@ -191,7 +190,6 @@ impl Load {
 
 /// The source of the load's body: that of the last hop, or an empty one where that has none.
 fn body_of(alloc: Global, plan: &ChannelPlan) -> Result<ResponseSource, Memory>
-    requires { Accepted plan.now }
     ensures body { IfOk result (λ r. IsBody plan.now r) }
     ensures next { IfOk result (λ r. r.next ≡ 0) }
 {

@@ -5,12 +5,12 @@ ghost use Rattle.nk_base.specs.declared.status.Moved.TheVariants as moved;
 ghost use Rattle.nk_plan.specs.declared.step.ParentStep.TheVariants as step;
 ghost use Rattle.nk_plan.specs.Accepted.{Accepted};
 ghost use Rattle.nk_plan.specs.Enabled.{parent_enabled};
-ghost use Rattle.nk_plan.specs.Failure.{kept_status};
 ghost use Rattle.nk_plan.specs.Journal.{ups_taken, mains_sent, backs_sent};
 ghost use Rattle.nk_plan.specs.Lanes.{LaneLaw};
 ghost use Rattle.nk_plan.specs.Parent.{new_parent, parent_step};
 ghost use Rattle.nk_plan.specs.Run.{IsParentRun, IsParentState};
-ghost use Rattle.nk_parent.specs.Views.{added, moved_if, is_open, is_done, is_asking};
+ghost use Rattle.nk_parent.specs.Views.{added, is_open, is_done, is_asking};
+ghost use Rattle.nk_base.specs.Status.{moved_if, kept_status};
 
 use crate::load::Load;
 use nk_base::{BackMsg, MainMsg, Memory, Moved, Out, Status, UpMsg};
@@ -42,9 +42,8 @@ impl Model for Parent {
 }
 
 impl Parent {
-    /// The parent of a channel with this plan, which `ChannelPlan::new` accepts, before its first step.
+    /// The parent of a channel with this plan, before its first step.
     pub fn new(alloc: Global, plan: &ChannelPlan) -> Result<Parent, Memory>
-        requires { Accepted plan.now }
         ensures { IfOk result (λ r. r ≡ record { plan = plan.now; state = new_parent plan.now }) }
     {
         let load = Load::new(alloc, plan.share()?)?;

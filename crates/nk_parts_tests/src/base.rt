@@ -1,13 +1,14 @@
-// What every layer speaks of: statuses, header fields and heads, pieces, messages, and the list that takes messages.
+// What every layer speaks of: statuses, header fields and heads, pieces, messages, lists, and the list that takes messages.
 
 ghost use Rattle.std.specs.Prelude.{◌≤◌, ◌+◌, length, IsTrue};
 ghost use Rattle.nk_base.specs.Ranges.{IsUpInRange};
 
 use nk_base::{
-    ByteList, Field, Fields, Grow, Head, HeadError, Name, Out, OutList, Piece, PieceError, Status,
-    Target, UpMsg, Value,
+    BackMsg, ByteList, Entry, Field, Fields, Grow, Head, HeadError, MainMsg, Name, Out, OutList,
+    Piece, PieceError, Status, Target, UpMsg, Value,
 };
 use std::alloc::Global;
+use std::mem::size_of;
 
 mod messages;
 
@@ -181,10 +182,21 @@ fn piece_size(alloc: Global, length: usize) -> Result<u32, PieceError> {
     }
 }
 
-/// The number of the first row of a length and the size of such a piece that is not so.
+/// The size of a piece that is made of a vector of so many bytes.
+fn moved_size(alloc: Global, length: usize) -> Result<u32, PieceError> {
+    let Ok(bytes) = vec![in alloc; 0x2e_u8; length] else {
+        return Err(PieceError::Memory);
+    };
+    match Piece::from_vec(bytes) {
+        Ok(piece) => Ok(piece.size()),
+        Err(error) => Err(error),
+    }
+}
+
+/// The number of the first row of a length and the size of such a piece, made either way, that is not so.
 fn first_wrong_size(alloc: Global, rows: &[(usize, Result<u32, PieceError>)]) -> Option<usize> {
     for (i, row) in rows.iter().enumerate() {
-        if piece_size(alloc, row.0) != row.1 {
+        if piece_size(alloc, row.0) != row.1 || moved_size(alloc, row.0) != row.1 {
             return Some(i);
         }
     }
@@ -201,6 +213,89 @@ fn a_piece_has_1_to_131072_bytes(rt: HostRuntime) {
         (131_073, Err(PieceError::TooLong)),
     ];
     assert_eq!(rt; first_wrong_size(rt.alloc(), &rows), None);
+}
+
+/// A part of a piece, so many bytes from this one on; none where they are none, or do not lie in it.
+fn part(piece: &Piece, from: u32, size: u32) -> Option<Piece> {
+    let whole = piece.size();
+    if size == 0 || whole < size || whole - size < from {
+        return None;
+    }
+    piece.part(from, size).ok()
+}
+
+/// The part `bcde` of a piece.
+fn middle(alloc: Global) -> Option<Piece> {
+    let source = Vec::from_slice(alloc, b"abcdef".as_slice()).ok()?;
+    part(&Piece::from_vec(source).ok()?, 1, 4)
+}
+
+fn has_bytes(piece: Option<Piece>, bytes: Option<&[u8]>) -> bool {
+    match (piece, bytes) {
+        (Some(piece), Some(bytes)) => piece.as_slice() == bytes,
+        (None, None) => true,
+        _ => false,
+    }
+}
+
+/// The number of the first row of where a part of that part begins, its size and its bytes that is not so.
+fn first_wrong_part(
+    alloc: Global,
+    rows: &[(u32, u32, Option<&'static [u8]>)],
+) -> Option<Option<usize>> {
+    let middle = middle(alloc)?;
+    for (i, row) in rows.iter().enumerate() {
+        if !has_bytes(part(&middle, row.0, row.1), row.2) {
+            return Some(Some(i));
+        }
+    }
+    Some(None)
+}
+
+#[test]
+fn a_part_of_a_part_has_its_bytes(rt: HostRuntime) {
+    let rows = [
+        (0, 4, Some(b"bcde".as_slice())),
+        (0, 1, Some(b"b".as_slice())),
+        (1, 2, Some(b"cd".as_slice())),
+        (3, 1, Some(b"e".as_slice())),
+        (0, 0, None),
+        (0, 5, None),
+        (2, 3, None),
+        (4, 1, None),
+    ];
+    assert_eq!(rt; first_wrong_part(rt.alloc(), &rows), Some(None));
+}
+
+/// How many fields there are in a share of a list of one, and then in the share and in the list once two were added to
+/// the share and one to the list; and whether a share that is left alone is as the list.
+fn counts(alloc: Global) -> Option<([usize; 3], bool)> {
+    let mut list = fields(alloc, 1, b"vary", b"accept")?;
+    let mut share = list.share().ok()?;
+    let before = share.len();
+    add_fields(alloc, &mut share, 2, b"age", b"0")?;
+    add_field(alloc, &mut list, b"age", b"1")?;
+    let again = list.share().ok()?;
+    Some((
+        [before, share.len(), list.len()],
+        again.same(&list) && !share.same(&list),
+    ))
+}
+
+#[test]
+fn a_list_that_is_shared_is_left_as_it_is(rt: HostRuntime) {
+    assert_eq!(rt; counts(rt.alloc()), Some(([1, 3, 2], true)));
+}
+
+#[test]
+fn what_carries_a_piece_is_small(rt: HostRuntime) {
+    let sizes = [
+        size_of::<Piece>(),
+        size_of::<Entry>(),
+        size_of::<MainMsg>(),
+        size_of::<BackMsg>(),
+    ];
+    assert_eq!(rt; sizes, [16, 32, 40, 40]);
 }
 
 /// Adds a byte and then more.
@@ -220,19 +315,20 @@ fn gathered(alloc: Global) -> Option<(usize, bool, bool)> {
     Some((length, has_bytes, back.as_slice() == b"abc".as_slice()))
 }
 
-/// Whether a list has the item that was added in the room that was made for it, and how many it has by way of a `Vec`.
+/// Whether a list has the items that were added in the room that was made for them, and how many it has by way of a `Vec`.
 fn grown(alloc: Global) -> Option<(bool, usize)> {
     let mut grow = Grow::new(alloc);
-    grow.reserve(1).ok()?;
+    grow.reserve(3).ok()?;
     grow.push(7u32);
-    let has_item = grow.as_slice() == [7].as_slice();
-    Some((has_item, Grow::from_vec(grow.into_vec()).len()))
+    grow.extend(&[8, 9]);
+    let has_items = grow.as_slice() == [7, 8, 9].as_slice();
+    Some((has_items, Grow::from_vec(grow.into_vec()).len()))
 }
 
 #[test]
 fn lists_take_what_is_pushed(rt: HostRuntime) {
     let both = (gathered(rt.alloc()), grown(rt.alloc()));
-    assert_eq!(rt; both, (Some((3, true, true)), Some((true, 1))));
+    assert_eq!(rt; both, (Some((3, true, true)), Some((true, 3))));
 }
 
 /// A list of messages, and how many it was given at most: so few that there is room for more.

@@ -16,6 +16,8 @@ mod flow;
 #[cfg(test)]
 mod hold;
 #[cfg(test)]
+mod lane;
+#[cfg(test)]
 mod pipe;
 #[cfg(test)]
 mod plan;

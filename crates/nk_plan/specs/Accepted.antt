@@ -5,7 +5,6 @@ use Rattle.nk_base.specs.declared.field.Field.{Field}
 use Rattle.nk_base.specs.Status.{is_failure}
 use Rattle.nk_base.specs.Fields.{are_good_fields}
 use Rattle.nk_base.specs.Ranges.{IsRedirectCode}
-use Rattle.nk_plan.specs.declared.plan.ChannelPlan.{ChannelPlan}
 use Rattle.nk_plan.specs.declared.plan.Hop.{Hop}
 use Rattle.nk_plan.specs.declared.plan.Hop.TheVariants as hop
 use Rattle.nk_plan.specs.declared.plan.Verdict.{Verdict}
@@ -22,9 +21,10 @@ use Rattle.nk_plan.specs.declared.plan.Control.{Control}
 use Rattle.nk_plan.specs.declared.plan.StartLane.{StartLane}
 use Rattle.nk_plan.specs.declared.plan.PlanError.{PlanError}
 use Rattle.nk_plan.specs.declared.plan.PlanError.TheVariants as error
+use Rattle.nk_plan.specs.PlanParts.{PlanParts}
 
 -- the plan with these parts
-abbrev pub plan_of : List Hop → ListenerKind → Bool → List Reaction → List Control → ℕ → Bool → StartLane → ChannelPlan
+abbrev pub plan_of : List Hop → ListenerKind → Bool → List Reaction → List Control → ℕ → Bool → StartLane → PlanParts
 plan_of hops listener retargetable reactions controls window closed start = record {
   hops = hops;
   listener = listener;
@@ -77,11 +77,11 @@ pieces_of (Some (hop.Redirect code own)) = []
 pieces_of (Some (hop.Response head pieces end trailers)) = pieces
 
 -- the pieces of the load's body
-abbrev pub body_of : ChannelPlan → List (List ℕ)
+abbrev pub body_of : PlanParts → List (List ℕ)
 body_of c = pieces_of (last_of c.hops)
 
 -- the number of its bytes
-abbrev pub body_size : ChannelPlan → ℕ
+abbrev pub body_size : PlanParts → ℕ
 body_size c = sum_by length (body_of c)
 
 -- THE LISTENER
@@ -134,7 +134,7 @@ IsGoodWindow window = (1 ≤ window) × (window ≤ 16777216)
 
 -- WHAT IS ACCEPTED
 
-pub record Accepted (c : ChannelPlan) : Type 0 where
+pub record Accepted (c : PlanParts) : Type 0 where
   pub some_hop : 0 < length c.hops
   pub few_hops : length c.hops ≤ 32
   pub ends : IsSomeAnd (last_of c.hops) (λ h. ¬ IsRedirect h)
@@ -163,7 +163,7 @@ pub record IsFirstBeyond {A : Type 0} (most : ℕ) (P : A → Type 0) (xs : List
   pub here : IsSomeAnd (slice_get xs i) (λ x. (i ≡ most) ⊎ (¬ P x))
 
 -- the plan is one that this refusal is for
-abbrev pub Refuses : PlanError → ChannelPlan → Type 0
+abbrev pub Refuses : PlanError → PlanParts → Type 0
 Refuses error.NoHop c = c.hops ≡ []
 Refuses (error.TooManyHops n) c = (n ≡ length c.hops) × (32 < n)
 Refuses error.LastIsRedirect c = IsSomeAnd (last_of c.hops) IsRedirect
@@ -191,11 +191,11 @@ row_of (error.BadControl i) = 9
 row_of error.BadWindow = 10
 
 -- the plan is one that this refusal is for, and none that an earlier refusal is for
-pub record IsFirstRefusal (e : PlanError) (c : ChannelPlan) : Type 0 where
+pub record IsFirstRefusal (e : PlanError) (c : PlanParts) : Type 0 where
   pub here : Refuses e c
   pub before : (earlier : PlanError) → row_of earlier < row_of e → ¬ Refuses earlier c
 
 -- what the constructor answers for the plan with these parts: that plan, where no refusal is for it, or the first that is
-abbrev pub IsPlanAnswer : ChannelPlan → Result ChannelPlan PlanError → Type 0
+abbrev pub IsPlanAnswer : PlanParts → Result PlanParts PlanError → Type 0
 IsPlanAnswer c (Ok made) = (made ≡ c) × Accepted c × ((e : PlanError) → ¬ Refuses e c)
 IsPlanAnswer c (Err e) = IsFirstRefusal e c

@@ -23,6 +23,10 @@ pub record Channel : Type 0 where
 abbrev pub main_lane : Channel → List MainMsg
 main_lane w = drop (length (mains_taken w.child.journal)) (mains_sent w.parent.journal)
 
+-- what the parent has handed to its background half, and that has not moved on
+abbrev pub half_lane : Channel → List BackMsg
+half_lane w = drop w.forwarded (backs_sent w.parent.journal)
+
 abbrev pub back_lane : Channel → List BackMsg
 back_lane w = drop (length (backs_taken w.child.journal)) (take w.forwarded (backs_sent w.parent.journal))
 

@@ -10,7 +10,7 @@ use Rattle.nk_base.specs.declared.message.UpMsg.{UpMsg}
 use Rattle.nk_base.specs.declared.message.Entry.{Entry}
 pub use Rattle.nk_base.specs.Hold.{Hold, hold_with, back_hop, is_among, of_hop, not_of_hop, released_hold}
 use Rattle.nk_base.specs.Queue.{Queue, Taken, Event, Over, Ended, empty_queue, same_target, is_target, target_number, runs_now, running_now, appended, suspended_once, resumed_once, completed, forced_once, unforced, prepended, cleared, retargeted, taken, flush_ended, handed_over}
-use Rattle.nk_base.specs.Status.{ok}
+use Rattle.nk_base.specs.Status.{ok, merged, kept_status}
 use Rattle.nk_plan.specs.declared.plan.ChannelPlan.{ChannelPlan}
 use Rattle.nk_plan.specs.declared.plan.StartLane.{StartLane}
 use Rattle.nk_plan.specs.declared.plan.Hop.{Hop}
@@ -22,7 +22,6 @@ use Rattle.nk_plan.specs.declared.event.ChildEvent.TheVariants.{Start, Bytes, St
 use Rattle.nk_plan.specs.declared.journal.ChildEntry.{ChildEntry}
 use Rattle.nk_plan.specs.declared.step.ChildStep.{ChildStep}
 use Rattle.nk_plan.specs.Event.{class_of}
-use Rattle.nk_plan.specs.Failure.{merged, kept_status}
 use Rattle.nk_plan.specs.Plan.{hop_at, stop_trailers}
 use Rattle.nk_base.specs.declared.status.Target.TheVariants as target
 use Rattle.nk_base.specs.declared.status.RetargetError.TheVariants as refused

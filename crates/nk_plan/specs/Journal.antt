@@ -6,7 +6,7 @@ use Rattle.nk_base.specs.declared.message.BackMsg.{BackMsg}
 use Rattle.nk_base.specs.declared.message.UpMsg.{UpMsg}
 use Rattle.nk_plan.specs.declared.journal.ParentEntry.{ParentEntry}
 use Rattle.nk_plan.specs.declared.journal.ChildEntry.{ChildEntry}
-use Rattle.nk_plan.specs.Failure.{failure, or_else}
+use Rattle.nk_base.specs.Status.{failure, or_else}
 use Rattle.nk_plan.specs.declared.journal.ParentEntry.TheVariants as parent
 use Rattle.nk_plan.specs.declared.journal.ChildEntry.TheVariants as child
 

@@ -4,7 +4,7 @@ use Rattle.std.specs.Prelude.{ℕ, suc, ◌+◌, ◌==◌, Bool, true, false, if
 use Rattle.nk_base.specs.declared.status.Status.{Status}
 use Rattle.nk_base.specs.declared.field.Head.{Head}
 use Rattle.nk_base.specs.declared.message.UpMsg.{UpMsg}
-use Rattle.nk_base.specs.Status.{ok, redirect_loop}
+use Rattle.nk_base.specs.Status.{ok, redirect_loop, merged, kept_status}
 use Rattle.nk_plan.specs.declared.plan.ChannelPlan.{ChannelPlan}
 use Rattle.nk_plan.specs.declared.plan.StartLane.{StartLane}
 use Rattle.nk_plan.specs.declared.plan.Hop.{Hop}
@@ -13,7 +13,6 @@ use Rattle.nk_plan.specs.declared.journal.ParentEntry.{ParentEntry}
 use Rattle.nk_plan.specs.declared.step.Phase.{Phase}
 use Rattle.nk_plan.specs.declared.step.Phase.TheVariants.{Closed, Ready, Asking, Follow, Body, Done}
 use Rattle.nk_plan.specs.declared.step.ParentStep.{ParentStep}
-use Rattle.nk_plan.specs.Failure.{merged, kept_status}
 use Rattle.nk_plan.specs.Plan.{hop_at, stop_trailers}
 use Rattle.nk_base.specs.declared.message.MainMsg.TheVariants as main
 use Rattle.nk_base.specs.declared.message.BackMsg.TheVariants as back

@@ -3,9 +3,8 @@
 use Rattle.std.specs.Prelude.{ℕ, ◌≡◌, ◌+◌, Bool, false, if◌then◌else◌, List, [], ◌∷◌, length, Option, Some, ◌⊎◌}
 use Rattle.nk_base.specs.declared.status.Status.{Status}
 use Rattle.nk_base.specs.declared.message.Entry.{Entry}
-use Rattle.nk_base.specs.Status.{ok}
+use Rattle.nk_base.specs.Status.{ok, kept_status}
 use Rattle.nk_plan.specs.declared.plan.ChannelPlan.{ChannelPlan}
-use Rattle.nk_plan.specs.Failure.{kept_status}
 use Rattle.nk_plan.specs.Plan.{hop_at, code_at, pieces_at, EndsWell, stop_trailers}
 use Rattle.nk_base.specs.declared.message.Entry.TheVariants as entry
 

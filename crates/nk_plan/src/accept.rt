@@ -2,8 +2,8 @@
 
 ghost use Rattle.std.specs.Prelude.{◌≡◌, ◌<◌, ◌≤◌, ◌↔◌, length, sum_by, All, IsTrue, IsOk, IsNone, IfSome, OnOk, IfOk, IfErr, MatchOption};
 ghost use Rattle.nk_base.specs.Ranges.{IsRedirectCode};
-ghost use Rattle.nk_plan.specs.Accepted.{plan_of, IsWorker, IsRedirect, IsGoodVerdict, IsGoodFinish, IsGoodHop, body_of, body_size, IsGoodListener, IsGoodReaction, IsGoodAct, IsGoodControl, IsFirstWithout, IsFirstBeyond, Accepted, IsFirstRefusal, IsPlanAnswer};
-ghost use Rattle.nk_plan.specs.Rows.{PassesRows, IsRefusedFrom};
+ghost use Rattle.nk_plan.specs.Accepted.{plan_of, IsWorker, IsRedirect, IsGoodVerdict, IsGoodFinish, IsGoodHop, body_of, body_size, IsGoodListener, IsGoodReaction, IsGoodAct, IsGoodControl, IsFirstWithout, IsFirstBeyond, Accepted, IsFirstRefusal, IsPlanAnswer, last_of, pieces_of};
+ghost use Rattle.nk_plan.specs.Rows.{parts_of, PassesRows, IsRefusedFrom};
 
 use crate::plan::{
     Act, ChannelPlan, Control, Controls, Finish, Hop, Hops, ListenerKind, PlanError, Reaction,
@@ -52,7 +52,7 @@ impl ChannelPlan {
         ensures answer { IsPlanAnswer (plan_of hops listener retargetable reactions controls window closed start) result }
         ensures accepted { IsOk result ↔ Accepted (plan_of hops listener retargetable reactions controls window closed start) }
     {
-        let plan = ChannelPlan {
+        let parts = Parts {
             hops,
             listener,
             retargetable,
@@ -62,16 +62,48 @@ impl ChannelPlan {
             closed,
             start,
         };
-        match plan.check() {
-            Ok(()) => Ok(plan),
+        match parts.check() {
+            Ok(()) => Ok(parts.into_plan()),
             Err(refusal) => Err(refusal),
         }
     }
+}
 
-    /// The first row that the plan does not pass.
+/// The parts of a plan, as long as it is not known whether there may be one.
+#[derive(Drop)]
+struct Parts {
+    hops: Hops,
+    listener: ListenerKind,
+    retargetable: bool,
+    reactions: Reactions,
+    controls: Controls,
+    window: u32,
+    closed: bool,
+    start: StartLane,
+}
+
+impl Parts {
+    /// The plan with these parts, where each row is passed.
+    fn into_plan(self) -> ChannelPlan
+        requires { Accepted (parts_of self) }
+        ensures { result ≡ parts_of self }
+    {
+        ChannelPlan {
+            hops: self.hops,
+            listener: self.listener,
+            retargetable: self.retargetable,
+            reactions: self.reactions,
+            controls: self.controls,
+            window: self.window,
+            closed: self.closed,
+            start: self.start,
+        }
+    }
+
+    /// The first row that the parts do not pass.
     fn check(&self) -> Result<(), PlanError>
-        ensures ok { OnOk result (Accepted self.now) }
-        ensures err { IfErr result (λ e. IsFirstRefusal e self.now) }
+        ensures ok { OnOk result (Accepted (parts_of self.now)) }
+        ensures err { IfErr result (λ e. IsFirstRefusal e (parts_of self.now)) }
     {
         self.check_hop_count()?;
         self.check_hop_order()?;
@@ -85,8 +117,8 @@ impl ChannelPlan {
 
     /// The rows on the number of hops.
     fn check_hop_count(&self) -> Result<(), PlanError>
-        ensures ok { OnOk result (PassesRows self.now 0 2) }
-        ensures err { IfErr result (IsRefusedFrom self.now 0) }
+        ensures ok { OnOk result (PassesRows (parts_of self.now) 0 2) }
+        ensures err { IfErr result (IsRefusedFrom (parts_of self.now) 0) }
     {
         let count = self.hops.len();
         if count == 0 {
@@ -100,9 +132,9 @@ impl ChannelPlan {
 
     /// The rows on where the redirects stand.
     fn check_hop_order(&self) -> Result<(), PlanError>
-        requires { PassesRows self.now 0 2 }
-        ensures ok { OnOk result (PassesRows self.now 2 4) }
-        ensures err { IfErr result (IsRefusedFrom self.now 2) }
+        requires { PassesRows (parts_of self.now) 0 2 }
+        ensures ok { OnOk result (PassesRows (parts_of self.now) 2 4) }
+        ensures err { IfErr result (IsRefusedFrom (parts_of self.now) 2) }
     {
         let hops = self.hops.as_slice();
         let last = hops.len() - 1;
@@ -117,8 +149,8 @@ impl ChannelPlan {
 
     /// The row on each hop by itself.
     fn check_hops(&self) -> Result<(), PlanError>
-        ensures ok { OnOk result (PassesRows self.now 4 5) }
-        ensures err { IfErr result (IsRefusedFrom self.now 4) }
+        ensures ok { OnOk result (PassesRows (parts_of self.now) 4 5) }
+        ensures err { IfErr result (IsRefusedFrom (parts_of self.now) 4) }
     {
         match first_bad_hop(self.hops.as_slice()) {
             Some(i) => Err(PlanError::BadHop(i)),
@@ -128,9 +160,9 @@ impl ChannelPlan {
 
     /// The rows on the body, and its size.
     fn check_body(&self) -> Result<u64, PlanError>
-        ensures ok { OnOk result (PassesRows self.now 5 7) }
-        ensures size { IfOk result (λ n. n ≡ body_size self.now) }
-        ensures err { IfErr result (IsRefusedFrom self.now 5) }
+        ensures ok { OnOk result (PassesRows (parts_of self.now) 5 7) }
+        ensures size { IfOk result (λ n. n ≡ body_size (parts_of self.now)) }
+        ensures err { IfErr result (IsRefusedFrom (parts_of self.now) 5) }
     {
         let body = self.body();
         if body.len() > ChannelPlan::MOST_PIECES {
@@ -145,10 +177,10 @@ impl ChannelPlan {
 
     /// The row on the listener, at a body of this size.
     fn check_listener(&self, size: u64) -> Result<(), PlanError>
-        requires size { size ≡ body_size self.now }
+        requires size { size ≡ body_size (parts_of self.now) }
         requires few { size ≤ 67108864 }
-        ensures ok { OnOk result (PassesRows self.now 7 8) }
-        ensures err { IfErr result (IsRefusedFrom self.now 7) }
+        ensures ok { OnOk result (PassesRows (parts_of self.now) 7 8) }
+        ensures err { IfErr result (IsRefusedFrom (parts_of self.now) 7) }
     {
         if self.listener.is_good(size) {
             Ok(())
@@ -159,8 +191,8 @@ impl ChannelPlan {
 
     /// The row on the reactions.
     fn check_reactions(&self) -> Result<(), PlanError>
-        ensures ok { OnOk result (PassesRows self.now 8 9) }
-        ensures err { IfErr result (IsRefusedFrom self.now 8) }
+        ensures ok { OnOk result (PassesRows (parts_of self.now) 8 9) }
+        ensures err { IfErr result (IsRefusedFrom (parts_of self.now) 8) }
     {
         match first_bad_reaction(self.reactions.as_slice()) {
             Some(i) => Err(PlanError::BadReaction(i)),
@@ -170,8 +202,8 @@ impl ChannelPlan {
 
     /// The row on the page's calls.
     fn check_controls(&self) -> Result<(), PlanError>
-        ensures ok { OnOk result (PassesRows self.now 9 10) }
-        ensures err { IfErr result (IsRefusedFrom self.now 9) }
+        ensures ok { OnOk result (PassesRows (parts_of self.now) 9 10) }
+        ensures err { IfErr result (IsRefusedFrom (parts_of self.now) 9) }
     {
         match first_bad_control(self.controls.as_slice(), self.closed) {
             Some(i) => Err(PlanError::BadControl(i)),
@@ -181,8 +213,8 @@ impl ChannelPlan {
 
     /// The row on the window.
     fn check_window(&self) -> Result<(), PlanError>
-        ensures ok { OnOk result (PassesRows self.now 10 11) }
-        ensures err { IfErr result (IsRefusedFrom self.now 10) }
+        ensures ok { OnOk result (PassesRows (parts_of self.now) 10 11) }
+        ensures err { IfErr result (IsRefusedFrom (parts_of self.now) 10) }
     {
         if self.window < 1 || self.window > ChannelPlan::MOST_WINDOW {
             return Err(PlanError::BadWindow);
@@ -192,12 +224,19 @@ impl ChannelPlan {
 
     /// The pieces of the body: those of the last hop.
     fn body(&self) -> &[Piece]
-        ensures { result.now ≡ body_of self.now }
+        ensures { result.now ≡ body_of (parts_of self.now) }
     {
-        match self.hops.as_slice().last() {
-            Some(Hop::Response { pieces, .. }) => pieces.as_slice(),
-            _ => &[],
-        }
+        body_pieces(self.hops.as_slice())
+    }
+}
+
+/// The pieces of the body of a load that meets these hops: those of the last one.
+pub(crate) fn body_pieces(hops: &[Hop]) -> &[Piece]
+    ensures { result.now ≡ pieces_of (last_of hops.now) }
+{
+    match hops.last() {
+        Some(Hop::Response { pieces, .. }) => pieces.as_slice(),
+        _ => &[],
     }
 }
 

@@ -2,17 +2,16 @@
 #![tactic(auto)]
 
 mod accept;
+mod capacity;
 mod ends;
 mod event;
 mod journal;
-mod kept;
 mod plan;
 mod step;
 
 pub use ends::{ChannelEnd, Ending, Ends, ReaderEnd, Readers, Trace};
 pub use event::ChildEvent;
 pub use journal::{ChildEntry, ChildJournal, ParentEntry, ParentJournal};
-pub use kept::{kept_status, merged};
 pub use plan::{
     Act, ChannelPlan, Control, Controls, Finish, Hop, Hops, ListenerKind, Pieces, PlanError, Plans,
     Reaction, Reactions, StartLane, Verdict,

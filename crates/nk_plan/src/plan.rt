@@ -1,8 +1,9 @@
 // The plan of a channel: what its load will meet, what its listener does, and what the page calls.
 
-ghost use Rattle.std.specs.Prelude.{◌≡◌, ◌++◌, ◌∷◌, ◌<◌, ◌↔◌, [], length, slice_get, Some, IsTrue, IfOk, OnOk, OnErr};
+ghost use Rattle.std.specs.Prelude.{◌≡◌, ◌++◌, ◌∷◌, ◌<◌, ◌↔◌, [], length, slice_get, Some, All, IsTrue, IfOk, OnOk, OnErr};
+ghost use Rattle.nk_plan.specs.Accepted.{Accepted};
 
-use nk_base::{Fields, Head, Memory, Piece, Status};
+use nk_base::{Fields, Head, Memory, Piece, Share, Shared, Status};
 use std::alloc::Global;
 use std::marker::Model;
 
@@ -90,89 +91,7 @@ pub struct Control {
 }
 
 /// The pieces of a body, in order. This project's own.
-#[derive(Drop)]
-pub struct Pieces {
-    pieces: Vec<Piece>,
-}
-
-impl Model for Pieces {
-    ghost use Rattle.std.specs.Prelude.{List, ℕ};
-
-    ghost Value = { List (List ℕ) };
-
-    ghost view = { λ s. s.pieces.items };
-}
-
-impl Pieces {
-    /// No pieces.
-    pub fn new(alloc: Global) -> Pieces
-        ensures { result ≡ [] }
-    {
-        Pieces {
-            pieces: Vec::new(alloc),
-        }
-    }
-
-    /// Adds a piece behind the others. On want of memory the list is as before.
-    pub fn push(&mut self, item: Piece) -> Result<(), Memory>
-        ensures ok { OnOk result (self.new ≡ self.old ++ item ∷ []) }
-        ensures err { OnErr result (self.new ≡ self.old) }
-    {
-        match self.pieces.push(item) {
-            Ok(()) => Ok(()),
-            Err(_) => Err(Memory),
-        }
-    }
-
-    /// The number of pieces.
-    pub fn len(&self) -> usize
-        ensures { result ≡ length self.now }
-    {
-        self.pieces.len()
-    }
-
-    /// Piece i, counted from 0.
-    pub fn get(&self, i: usize) -> &Piece
-        requires { i < length self.now }
-        ensures { slice_get self.now i ≡ Some result.now }
-    {
-        &self.pieces[i]
-    }
-
-    /// All pieces, in order.
-    pub fn as_slice(&self) -> &[Piece]
-        ensures { result.now ≡ self.now }
-    {
-        self.pieces.as_slice()
-    }
-
-    /// An equal list, over the same bytes.
-    pub fn share(&self) -> Result<Pieces, Memory>
-        ensures { IfOk result (λ r. r ≡ self.now) }
-    {
-        let mut all = Pieces::new(*self.pieces.allocator());
-        for piece in &self.pieces {
-            all.push(piece.share()?)?;
-        }
-        Ok(all)
-    }
-
-    /// Whether the two are equal.
-    pub fn same(&self, other: &Pieces) -> bool
-        ensures { IsTrue result ↔ (self.now ≡ other.now) }
-    {
-        let length = self.pieces.len();
-        if length != other.pieces.len() {
-            return false;
-        }
-        for i in 0..length {
-            if !self.pieces[i].same(&other.pieces[i]) {
-                return false;
-            }
-        }
-        true
-    }
-}
+pub type Pieces = Shared<Piece>;
 
 /// One hop of a load: what the server answers to one request. This project's own.
 #[derive(Drop)]
@@ -267,262 +186,45 @@ impl Hop {
 }
 
 /// The hops of a load, in order. This project's own.
-#[derive(Drop)]
-pub struct Hops {
-    hops: Vec<Hop>,
-}
-
-impl Model for Hops {
-    ghost use Rattle.std.specs.Prelude.{List};
-    ghost use Rattle.nk_plan.specs.declared.plan.Hop.{Hop};
-
-    ghost Value = { List Hop };
-
-    ghost view = { λ s. s.hops.items };
-}
-
-impl Hops {
-    /// No hops.
-    pub fn new(alloc: Global) -> Hops
-        ensures { result ≡ [] }
-    {
-        Hops {
-            hops: Vec::new(alloc),
-        }
-    }
-
-    /// Adds a hop behind the others. On want of memory the list is as before.
-    pub fn push(&mut self, item: Hop) -> Result<(), Memory>
-        ensures ok { OnOk result (self.new ≡ self.old ++ item ∷ []) }
-        ensures err { OnErr result (self.new ≡ self.old) }
-    {
-        match self.hops.push(item) {
-            Ok(()) => Ok(()),
-            Err(_) => Err(Memory),
-        }
-    }
-
-    /// The number of hops.
-    pub fn len(&self) -> usize
-        ensures { result ≡ length self.now }
-    {
-        self.hops.len()
-    }
-
-    /// Hop i, counted from 0.
-    pub fn get(&self, i: usize) -> &Hop
-        requires { i < length self.now }
-        ensures { slice_get self.now i ≡ Some result.now }
-    {
-        &self.hops[i]
-    }
-
-    /// All hops, in order.
-    pub fn as_slice(&self) -> &[Hop]
-        ensures { result.now ≡ self.now }
-    {
-        self.hops.as_slice()
-    }
-
-    /// An equal list, over the same bytes.
-    pub fn share(&self) -> Result<Hops, Memory>
-        ensures { IfOk result (λ r. r ≡ self.now) }
-    {
-        let mut all = Hops::new(*self.hops.allocator());
-        for hop in &self.hops {
-            all.push(hop.share()?)?;
-        }
-        Ok(all)
-    }
-
-    /// Whether the two are equal.
-    pub fn same(&self, other: &Hops) -> bool
-        ensures { IsTrue result ↔ (self.now ≡ other.now) }
-    {
-        let length = self.hops.len();
-        if length != other.hops.len() {
-            return false;
-        }
-        for i in 0..length {
-            if !self.hops[i].same(&other.hops[i]) {
-                return false;
-            }
-        }
-        true
-    }
-}
+pub type Hops = Shared<Hop>;
 
 /// The reactions of a listener, in the order in which it performs them. This project's own.
-#[derive(Drop)]
-pub struct Reactions {
-    reactions: Vec<Reaction>,
-}
-
-impl Model for Reactions {
-    ghost use Rattle.std.specs.Prelude.{List};
-    ghost use Rattle.nk_plan.specs.declared.plan.Reaction.{Reaction};
-
-    ghost Value = { List Reaction };
-
-    ghost view = { λ s. s.reactions.items };
-}
-
-impl Reactions {
-    /// No reactions.
-    pub fn new(alloc: Global) -> Reactions
-        ensures { result ≡ [] }
-    {
-        Reactions {
-            reactions: Vec::new(alloc),
-        }
-    }
-
-    /// Adds a reaction behind the others. On want of memory the list is as before.
-    pub fn push(&mut self, item: Reaction) -> Result<(), Memory>
-        ensures ok { OnOk result (self.new ≡ self.old ++ item ∷ []) }
-        ensures err { OnErr result (self.new ≡ self.old) }
-    {
-        match self.reactions.push(item) {
-            Ok(()) => Ok(()),
-            Err(_) => Err(Memory),
-        }
-    }
-
-    /// The number of reactions.
-    pub fn len(&self) -> usize
-        ensures { result ≡ length self.now }
-    {
-        self.reactions.len()
-    }
-
-    /// Reaction i, counted from 0.
-    pub fn get(&self, i: usize) -> &Reaction
-        requires { i < length self.now }
-        ensures { slice_get self.now i ≡ Some result.now }
-    {
-        &self.reactions[i]
-    }
-
-    /// All reactions, in order.
-    pub fn as_slice(&self) -> &[Reaction]
-        ensures { result.now ≡ self.now }
-    {
-        self.reactions.as_slice()
-    }
-
-    /// An equal list.
-    pub fn share(&self) -> Result<Reactions, Memory>
-        ensures { IfOk result (λ r. r ≡ self.now) }
-    {
-        match self.reactions.clone() {
-            Ok(reactions) => Ok(Reactions { reactions }),
-            Err(_) => Err(Memory),
-        }
-    }
-
-    /// Whether the two are equal.
-    pub fn same(&self, other: &Reactions) -> bool
-        ensures { IsTrue result ↔ (self.now ≡ other.now) }
-    {
-        let length = self.reactions.len();
-        if length != other.reactions.len() {
-            return false;
-        }
-        for i in 0..length {
-            if self.reactions[i] != other.reactions[i] {
-                return false;
-            }
-        }
-        true
-    }
-}
+pub type Reactions = Shared<Reaction>;
 
 /// The calls of the page after the opening, in the order in which they come. This project's own.
-#[derive(Drop)]
-pub struct Controls {
-    controls: Vec<Control>,
-}
+pub type Controls = Shared<Control>;
 
-impl Model for Controls {
-    ghost use Rattle.std.specs.Prelude.{List};
-    ghost use Rattle.nk_plan.specs.declared.plan.Control.{Control};
-
-    ghost Value = { List Control };
-
-    ghost view = { λ s. s.controls.items };
-}
-
-impl Controls {
-    /// No calls.
-    pub fn new(alloc: Global) -> Controls
-        ensures { result ≡ [] }
-    {
-        Controls {
-            controls: Vec::new(alloc),
-        }
+impl Share for Hop {
+    fn shared(&self) -> Result<Hop, Memory> {
+        self.share()
     }
 
-    /// Adds a call behind the others. On want of memory the list is as before.
-    pub fn push(&mut self, item: Control) -> Result<(), Memory>
-        ensures ok { OnOk result (self.new ≡ self.old ++ item ∷ []) }
-        ensures err { OnErr result (self.new ≡ self.old) }
-    {
-        match self.controls.push(item) {
-            Ok(()) => Ok(()),
-            Err(_) => Err(Memory),
-        }
-    }
-
-    /// The number of calls.
-    pub fn len(&self) -> usize
-        ensures { result ≡ length self.now }
-    {
-        self.controls.len()
-    }
-
-    /// Call i, counted from 0.
-    pub fn get(&self, i: usize) -> &Control
-        requires { i < length self.now }
-        ensures { slice_get self.now i ≡ Some result.now }
-    {
-        &self.controls[i]
-    }
-
-    /// All calls, in order.
-    pub fn as_slice(&self) -> &[Control]
-        ensures { result.now ≡ self.now }
-    {
-        self.controls.as_slice()
-    }
-
-    /// An equal list.
-    pub fn share(&self) -> Result<Controls, Memory>
-        ensures { IfOk result (λ r. r ≡ self.now) }
-    {
-        match self.controls.clone() {
-            Ok(controls) => Ok(Controls { controls }),
-            Err(_) => Err(Memory),
-        }
-    }
-
-    /// Whether the two are equal.
-    pub fn same(&self, other: &Controls) -> bool
-        ensures { IsTrue result ↔ (self.now ≡ other.now) }
-    {
-        let length = self.controls.len();
-        if length != other.controls.len() {
-            return false;
-        }
-        for i in 0..length {
-            if self.controls[i] != other.controls[i] {
-                return false;
-            }
-        }
-        true
+    fn is(&self, other: &Hop) -> bool {
+        self.same(other)
     }
 }
 
-/// The plan of a channel. This project's own.
+impl Share for Reaction {
+    fn shared(&self) -> Result<Reaction, Memory> {
+        Ok(*self)
+    }
+
+    fn is(&self, other: &Reaction) -> bool {
+        self == other
+    }
+}
+
+impl Share for Control {
+    fn shared(&self) -> Result<Control, Memory> {
+        Ok(*self)
+    }
+
+    fn is(&self, other: &Control) -> bool {
+        self == other
+    }
+}
+
+/// The plan of a channel, which is always one that `ChannelPlan::new` accepts. This project's own.
 ///
 /// The opening is not in `controls`: a plan that is not `closed` is opened by its first step.
 #[derive(Drop)]
@@ -543,6 +245,17 @@ pub struct ChannelPlan {
     pub closed: bool,
     /// The lane on which the start travels.
     pub start: StartLane,
+}
+
+impl Model for ChannelPlan {
+    ghost use Rattle.nk_plan.specs.PlanParts.{PlanParts};
+    ghost use Rattle.nk_plan.specs.Accepted.{Accepted, plan_of};
+
+    ghost Value = { PlanParts };
+
+    ghost view = { λ s. plan_of s.hops s.listener s.retargetable s.reactions s.controls s.window s.closed s.start };
+
+    ghost invariant = { λ s. Accepted (plan_of s.hops s.listener s.retargetable s.reactions s.controls s.window s.closed s.start) };
 }
 
 impl ChannelPlan {
@@ -580,19 +293,22 @@ impl ChannelPlan {
     }
 }
 
-/// The plans of a run's channels, in their order. This project's own.
+/// The plans of a run's channels, in their order, each accepted. This project's own.
 #[derive(Drop)]
 pub struct Plans {
     plans: Vec<ChannelPlan>,
 }
 
 impl Model for Plans {
-    ghost use Rattle.std.specs.Prelude.{List};
+    ghost use Rattle.std.specs.Prelude.{List, All};
     ghost use Rattle.nk_plan.specs.declared.plan.ChannelPlan.{ChannelPlan};
+    ghost use Rattle.nk_plan.specs.Accepted.{Accepted};
 
     ghost Value = { List ChannelPlan };
 
     ghost view = { λ s. s.plans.items };
+
+    ghost invariant = { λ s. All Accepted s.plans.items };
 }
 
 impl Plans {
@@ -610,6 +326,8 @@ impl Plans {
         ensures ok { OnOk result (self.new ≡ self.old ++ item ∷ []) }
         ensures err { OnErr result (self.new ≡ self.old) }
     {
+        // A field is read for what the type keeps of a plan.
+        let _window = item.window;
         match self.plans.push(item) {
             Ok(()) => Ok(()),
             Err(_) => Err(Memory),
@@ -636,6 +354,13 @@ impl Plans {
         ensures { result.now ≡ self.now }
     {
         self.plans.as_slice()
+    }
+
+    /// A law: each plan is accepted. It does nothing.
+    pub fn accepted_law(&self)
+        ensures { All Accepted self.now }
+    {
+        let _plans = &self.plans;
     }
 }
 

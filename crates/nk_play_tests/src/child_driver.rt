@@ -3,7 +3,6 @@
 ghost use Rattle.std.specs.Prelude.{IfOk};
 ghost use Rattle.nk_base.specs.Ranges.{IsMainInRange, IsBackInRange};
 ghost use Rattle.nk_child.specs.Steps.{IsStepInRange};
-ghost use Rattle.nk_plan.specs.Accepted.{Accepted};
 
 use crate::scripts::{compare, script};
 use nk_base::{BackMsg, Fields, Head, MainMsg, Memory, Moved, OutList, Piece, Status, Target};
@@ -135,9 +134,7 @@ fn comes_to(alloc: Global, child: &mut Child, what: &[Do], want: &[u8]) -> Resul
 }
 
 /// The same for the child of a plan. What is dropped of it at the end are its lists.
-fn enters_by(alloc: Global, plan: &ChannelPlan, what: &[Do], want: &[u8]) -> Result<(), Fail>
-    requires { Accepted plan.now }
-{
+fn enters_by(alloc: Global, plan: &ChannelPlan, what: &[Do], want: &[u8]) -> Result<(), Fail> {
     let mut child = Child::new(alloc, plan)?;
     let answer = comes_to(alloc, &mut child, what, want);
     drop(child.into_parts());

@@ -1,8 +1,6 @@
 //! The credit of a window, a load that is cancelled before its start, and messages that are not expected in the phase in
 //! which they come.
 
-ghost use Rattle.nk_plan.specs.Accepted.{Accepted};
-
 use crate::scripts::{compare, script};
 use nk_base::{BackMsg, MainMsg, Memory, OutList, Status, UpMsg};
 use nk_parent::Parent;
@@ -92,9 +90,7 @@ fn plays_all(alloc: Global, parent: &mut Parent, rows: &[Row]) -> Result<(), Fai
 }
 
 /// The same with the parent of a plan. What is dropped of it at the end is its journal.
-fn sends_by(alloc: Global, plan: &ChannelPlan, rows: &[Row]) -> Result<(), Fail>
-    requires { Accepted plan.now }
-{
+fn sends_by(alloc: Global, plan: &ChannelPlan, rows: &[Row]) -> Result<(), Fail> {
     let mut parent = Parent::new(alloc, plan)?;
     let answer = plays_all(alloc, &mut parent, rows);
     drop(parent.into_journal());

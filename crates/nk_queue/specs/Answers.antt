@@ -1,5 +1,5 @@
 -- What the calls of an `EventQueue` answer, by the queue machine. This project's own.
-use Rattle.std.specs.Prelude.{◌≡◌, true, false, if◌then◌else◌, List, [], ◌∷◌, Option, Some, None}
+use Rattle.std.specs.Prelude.{◌≡◌, Bool, true, false, if◌then◌else◌, List, [], ◌∷◌, Option, Some, None}
 use Rattle.nk_base.specs.declared.status.Target.{Target}
 use Rattle.nk_base.specs.declared.queue.Class.{Class}
 use Rattle.nk_base.specs.Queue.{Queue, Taken, is_busy, runs_now, target_in, running_now, appended, taken, handed_over, flush_ended}
@@ -25,6 +25,12 @@ abbrev pub take_answer : {E : Type 0} → Taken E → TakeAnswer E
 take_answer (queue.Event e rest) = take.Event e
 take_answer (queue.Over t) = take.HandOver t
 take_answer queue.Ended = take.Ended
+
+-- whether a take posts the first event at its target, where the flush goes on
+abbrev pub hands_over : {E : Type 0} → Taken E → Bool
+hands_over (queue.Event e rest) = false
+hands_over (queue.Over t) = true
+hands_over queue.Ended = false
 
 -- an offer by its answer: when it comes, and what the queue is then
 abbrev pub OfferCases : {E : Type 0} → (E → Class) → Queue E → E → Target → Offer E → Queue E → Type 0

@@ -3,12 +3,12 @@
 use Rattle.std.specs.Prelude.{ℕ, ◌<◌, ◌+◌, ◌-◌, Bool, true, false, ◌||◌, if◌then◌else◌, nat_lt, max, List, [], ◌∷◌, length, IsTrue}
 use Rattle.std.below.core.specs.declared.int.usize.TheConstants.{MAX}
 use Rattle.nk_base.specs.declared.queue.Class.{Class}
-use Rattle.nk_base.specs.Queue.{Queue, IsTarget, HasTarget, MayPost, target_in, is_target, is_posted, runs_now, offer_leaves, posted_to, suspended_once, resumed_once, resume_answer, completed, complete_answer, forced_once, unforced, unforced_answer, prepended, cleared, retargeted, take_leaves, take_spare}
+use Rattle.nk_base.specs.Queue.{Queue, IsTarget, HasTarget, MayPost, target_in, is_target, is_posted, runs_now, offer_leaves, posted_to, suspended_once, resume_posts, resumed_once, resume_answer, completed, complete_answer, forced_once, unforced, unforced_answer, prepended, cleared, retargeted, take_leaves, take_spare}
 use Rattle.nk_queue.specs.declared.laws.call.QueueCall.{QueueCall}
 use Rattle.nk_queue.specs.declared.laws.call.QueueCall.TheVariants as call
 use Rattle.nk_queue.specs.declared.laws.call.QueueAnswer.{QueueAnswer}
 use Rattle.nk_queue.specs.declared.laws.call.QueueAnswer.TheVariants as answer
-use Rattle.nk_queue.specs.Answers.{offer_answer, take_answer, taken_by}
+use Rattle.nk_queue.specs.Answers.{offer_answer, take_answer, taken_by, hands_over}
 
 -- whether a call asks for room
 abbrev pub is_reserve : {E : Type 0} → QueueCall E → Bool
@@ -36,14 +36,14 @@ module _ {E : Type 0} (class : E → Class) where
       (0 < spare) × IsTarget here × HasTarget (class e)
       × (IsTrue (is_posted class q e here) → posted_to q (target_in q.data_target (class e)) < MAX)
   MayCall q spare call.Suspend = q.count < MAX - 1
-  MayCall q spare call.Resume = (0 < q.count) × MayPost class q q.waiting MAX
+  MayCall q spare call.Resume = (0 < q.count) × (IsTrue (resume_posts q) → MayPost class q q.waiting MAX)
   MayCall q spare (call.Complete here) = IsTarget here × (0 < posted_to q here)
   MayCall q spare call.StartForced = q.forced < MAX
   MayCall q spare (call.EndForced here) = IsTarget here × (0 < q.forced)
   MayCall q spare (call.Prepend e) =
       IsTrue (q.suspended || nat_lt 0 q.forced) × (0 < spare) × HasTarget (class e)
   MayCall q spare (call.Take here) =
-      IsTarget here × IsTrue (is_target q.flushing here) × MayPost class q q.waiting MAX
+      IsTarget here × IsTrue (is_target q.flushing here) × (IsTrue (hands_over (taken_by class q here)) → MayPost class q q.waiting MAX)
   MayCall q spare call.Clear = Unit {0}
   MayCall q spare (call.SetDataTarget t) = IsTarget t
   MayCall q spare call.Flushing = Unit {0}

@@ -2,9 +2,9 @@
 
 ghost use Rattle.std.specs.Prelude.{◌≡◌, ◌+◌, ◌-◌, ◌<◌, ◌≤◌, ◌||◌, length, IsTrue, IfSome, OnOk, OnErr, nat_lt, slice_index, if◌then◌else◌};
 ghost use Rattle.std.specs.Option.{option_copied};
-ghost use Rattle.nk_base.specs.Queue.{LegalQueue, IsTarget, HasTarget, MayPost, empty_queue, target_number, target_in, is_target, has_some, is_busy, is_posted, runs_now, offer_leaves, posted_to, raised, suspended_once, resumed_once, resume_answer, completed, complete_answer, forced_once, unforced, unforced_answer, prepended, cleared, retargeted, take_leaves, take_spare};
+ghost use Rattle.nk_base.specs.Queue.{LegalQueue, IsTarget, HasTarget, MayPost, empty_queue, target_number, target_in, is_target, has_some, is_busy, is_posted, runs_now, offer_leaves, posted_to, raised, suspended_once, resume_posts, resumed_once, resume_answer, completed, complete_answer, forced_once, unforced, unforced_answer, prepended, cleared, retargeted, take_leaves, take_spare};
 ghost use Rattle.nk_chain.specs.Chain.{items_of};
-ghost use Rattle.nk_queue.specs.Answers.{offer_answer, take_answer, OfferCases, TakeCases, taken_by, event_of, first_event};
+ghost use Rattle.nk_queue.specs.Answers.{offer_answer, take_answer, OfferCases, TakeCases, taken_by, hands_over, event_of, first_event};
 
 use crate::answer::{Offer, Taken};
 use nk_base::{Class, Classed, Memory, Target};
@@ -259,7 +259,7 @@ impl<E: Classed> EventQueue<E> {
     /// Resumes the queue once, and answers where a task was posted.
     pub fn resume(&mut self) -> Option<Target>
         requires counted { 0 < self.old.state.count }
-        requires posts { MayPost E.class self.old.state self.old.state.waiting usize.MAX }
+        requires posts { IsTrue (resume_posts self.old.state) → MayPost E.class self.old.state self.old.state.waiting usize.MAX }
         ensures answer { result ≡ resume_answer E.class self.old.state }
         ensures state { self.new ≡ record self.old { state = resumed_once E.class self.old.state } }
     {
@@ -343,7 +343,7 @@ impl<E: Classed> EventQueue<E> {
     pub fn take(&mut self, here: Target) -> Taken<E>
         requires here { IsTarget here }
         requires flushing { IsTrue (is_target self.old.state.flushing here) }
-        requires posts { MayPost E.class self.old.state self.old.state.waiting usize.MAX }
+        requires posts { IsTrue (hands_over (taken_by E.class self.old.state here)) → MayPost E.class self.old.state self.old.state.waiting usize.MAX }
         ensures answer { result ≡ take_answer (taken_by E.class self.old.state here) }
         ensures state { self.new.state ≡ take_leaves self.old.state (taken_by E.class self.old.state here) }
         ensures cases { TakeCases E.class self.old.state here result self.new.state }

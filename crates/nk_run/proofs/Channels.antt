@@ -14,8 +14,7 @@ use Rattle.nk_plan.specs.declared.ends.Ending.TheVariants as ending
 use Rattle.nk_plan.specs.declared.step.Step.{Step}
 use Rattle.nk_plan.specs.Accepted.{Accepted, IsGoodListener, body_size}
 use Rattle.nk_script.specs.declared.script.ScheduleItem.{ScheduleItem}
-use Rattle.nk_sink.specs.Listener.{body_of}
-use Rattle.nk_sink.specs.Reached.{readers_of, whole_end}
+use Rattle.nk_plan.specs.Readers.{body_of, readers_of, whole_end}
 use Rattle.nk_gen.specs.Summing.{size_of, bytes_in, AreSumsSmall}
 use Rattle.nk_gen_law.specs.Laws.{Fits, SumsLaw}
 use Rattle.nk_world.specs.Play.{Play, IsQuiet}

@@ -14,7 +14,7 @@ use Rattle.nk_plan.specs.declared.plan.Reaction.{Reaction}
 use Rattle.nk_plan.specs.declared.plan.Control.{Control}
 use Rattle.nk_plan.specs.declared.plan.StartLane.{StartLane}
 use Rattle.nk_plan.specs.declared.plan.StartLane.TheVariants as lane
-use Rattle.nk_plan.specs.Accepted.{Accepted, IsRedirect, IsGoodHop, IsGoodListener, IsGoodReaction, IsGoodControl, IsGoodAct, IsGoodWindow}
+use Rattle.nk_plan.specs.Accepted.{Accepted, IsRedirect, IsGoodHop, IsGoodListener, IsGoodReaction, IsGoodControl, IsGoodAct, IsGoodWindow, rounded_up}
 use Rattle.nk_script.specs.declared.draft.Draft.{Draft}
 use Rattle.nk_script.specs.declared.line.HopLine.{HopLine}
 use Rattle.nk_script.specs.declared.line.HopLine.TheVariants as hop
@@ -30,9 +30,9 @@ use Rattle.nk_script.specs.declared.script.Script.{Script}
 use Rattle.nk_script.specs.Responses.{ResponseParts}
 use Rattle.nk_script.specs.Texts.{first_word, lines}
 use Rattle.nk_script.specs.Order.{allows, behind, behind_reaction, may_end}
-use Rattle.nk_script.specs.Draft.{plan_of, plans_of, new_draft, new_response, start, after, is_within, is_listener_within, rounded_up, size_of, with_hop, with_response, response_count}
+use Rattle.nk_script.specs.Draft.{plan_of, plans_of, IsPlan, IsComplete, EndsComplete, new_draft, new_response, start, after, is_within, is_listener_within, size_of, with_hop, with_response, response_count}
 use Rattle.nk_script.specs.Grammar.{Stands, Ends, IsTextOf}
-use Rattle.nk_script.specs.Answers.{IsPlayable, IsOfChannel}
+use Rattle.nk_script.specs.Answers.{IsPlayable, IsOfChannel, IsTaken}
 use Rattle.nk_script.proofs.Keywords.{one_keyword}
 use Rattle.nk_script.proofs.Ranged.{IsRanged, IsGoodEnd, IsGoodHopLine, IsListenerInRange, line_ranged, line_stands, keyword_of}
 use Rattle.nk_script.proofs.Drafts.{IsOpening, IsResponding, IsWhole, IsCalled, all_more, options_accepted, response_whole, fail_whole, redirect_opening, response_responding, responding_with, one_more_piece, one_more_trailer}
@@ -476,6 +476,46 @@ stands_allowed r text l is =
     let same = one_keyword (first_word text) is.expected.0 is.form.keyword is.expected.1 is.form.begins in
     line_stands is.form.keyword (length r.plans) text l r.place is.form.form (subst (λ (k : Keyword). allows r.place k ≡ true) same is.expected.2)
 
+so_far_stands : (r : Reader) (text : List ℕ) (l : Line) → IsSoFar r → Stands r text l → IsSoFar (after r l)
+so_far_stands r text l is stands =
+    so_far_after r l is (stands_allowed r text l stands) (line_ranged stands.form.keyword (length r.plans) text l stands.form.form) stands.within
+
+pub so_far_taken : (r new : Reader) (text : List ℕ) → IsSoFar r → IsTaken r text new → IsSoFar new
+so_far_taken r new text is taken = subst IsSoFar (sym taken.taken) (so_far_stands r text taken.line is taken.stands)
+
+pub so_far_start : IsSoFar start
+so_far_start = record { plans = All-nil Accepted; here = tt; size = omega arith; bytes = omega arith; schedule = All-nil (IsOfChannel 0) }
+
+-- where a channel may end, it has come as far as a plan
+
+plan_at : (p : Place) (plans : List ChannelPlan) (o : Option Draft) → IsAtPlace p plans o → size_in o ≤ 67108864 → is_inside p ≡ false → IsPlan o
+plan_at p plans None i small h = tt
+plan_at p plans (Some d) i small h = complete_at p d i small h
+
+pub end_complete : (r : Reader) → IsSoFar r → may_end r.place ≡ true → IsComplete r
+end_complete r is end = plan_at r.place r.plans r.draft is.here (small_in r is) (from_end r.place end)
+
+ends_complete : (r : Reader) (l : Line) → IsSoFar r → allows r.place (keyword_of l) ≡ true → EndsComplete r l
+ends_complete r line.Script is h = tt
+ends_complete r line.Channel is h = plan_at r.place r.plans r.draft is.here (small_in r is) (from_channel r.place h)
+ends_complete r (line.Hop hop) is h = tt
+ends_complete r (line.Field f) is h = tt
+ends_complete r (line.Piece bytes) is h = tt
+ends_complete r (line.End f) is h = tt
+ends_complete r (line.Trailer f) is h = tt
+ends_complete r (line.Listener kind) is h = tt
+ends_complete r line.NotRetargetable is h = tt
+ends_complete r (line.Window n) is h = tt
+ends_complete r line.StartBack is h = tt
+ends_complete r line.Closed is h = tt
+ends_complete r (line.Reaction a) is h = tt
+ends_complete r (line.Control c) is h = tt
+ends_complete r line.Schedule is h = plan_at r.place r.plans r.draft is.here (small_in r is) (from_schedule r.place h)
+ends_complete r (line.Step item) is h = tt
+
+pub stands_complete : (r : Reader) (text : List ℕ) → IsSoFar r → (l : Line) → Stands r text l → EndsComplete r l
+stands_complete r text is l stands = ends_complete r l is (stands_allowed r text l stands)
+
 so_far_ends : (r : Reader) (texts : List (List ℕ)) (s : Script) → IsSoFar r → length (plans_of r) ≤ 1024 → Ends r texts s → IsPlayable s
 so_far_ends r [] s is few (end, same) = subst IsPlayable (sym same) (record {
   plans = plans_accepted r.place r.plans r.draft is.plans is.here (small_in r is) (from_end r.place end);
@@ -484,10 +524,8 @@ so_far_ends r [] s is few (end, same) = subst IsPlayable (sym same) (record {
   schedule = of_more (length r.plans) (length (plans_of r)) r.schedule (no_fewer r.plans r.draft) is.schedule;
 })
 so_far_ends r (text ∷ texts) s is few (l, stands, more) =
-    so_far_ends (after r l) texts s
-    (so_far_after r l is (stands_allowed r text l stands) (line_ranged stands.form.keyword (length r.plans) text l stands.form.form) stands.within)
-    (count_after r l stands.within few) more
+    so_far_ends (after r l) texts s (so_far_stands r text l is stands) (count_after r l stands.within few) more
 
 -- what a text stands for can be played
 pub text_playable : (s : Script) (text : List ℕ) → IsTextOf s text → IsPlayable s
-text_playable s text is = so_far_ends start (lines text) s (record { plans = All-nil Accepted; here = tt; size = omega arith; bytes = omega arith; schedule = All-nil (IsOfChannel 0) }) (omega arith) is
+text_playable s text is = so_far_ends start (lines text) s so_far_start (omega arith) is

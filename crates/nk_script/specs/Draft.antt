@@ -1,5 +1,5 @@
 -- What the lines of a script say so far, and what each line adds (this project's own).
-use Rattle.std.specs.Prelude.{◌≡◌, true, false, Bool, ◌&&◌, nat_le, nat_lt, ℕ, ◌≤◌, ◌+◌, ◌*◌, ◌/◌, ◌%◌, min, List, [], ◌∷◌, ◌++◌, length, Some, None, option_to_list}
+use Rattle.std.specs.Prelude.{◌≡◌, true, false, Bool, ◌&&◌, nat_le, nat_lt, ℕ, ◌≤◌, ◌+◌, ◌*◌, List, [], ◌∷◌, ◌++◌, length, Option, Some, None, option_to_list}
 use Rattle.std.specs.Option.{option_map, option_map_or}
 use Rattle.nk_base.specs.Fields.{is_good_field}
 use Rattle.nk_plan.specs.declared.plan.Hop.{Hop}
@@ -9,6 +9,7 @@ use Rattle.nk_plan.specs.declared.plan.Finish.TheVariants as finish
 use Rattle.nk_plan.specs.declared.plan.ListenerKind.{ListenerKind}
 use Rattle.nk_plan.specs.declared.plan.ListenerKind.TheVariants as listener
 use Rattle.nk_plan.specs.declared.plan.StartLane.TheVariants as lane
+use Rattle.nk_plan.specs.Accepted.{Accepted, rounded_up}
 use Rattle.nk_script.specs.declared.line.HopLine.{HopLine}
 use Rattle.nk_script.specs.declared.line.HopLine.TheVariants as hop
 use Rattle.nk_script.specs.declared.line.Line.{Line}
@@ -59,6 +60,20 @@ new_response code = record { code = code; fields = []; pieces = []; size = 0; fi
 
 abbrev pub start : Reader
 start = record { place = place.Start; plans = []; draft = None; schedule = []; pieces = 0; bytes = 0; read = 0 }
+
+-- the channel that is not complete yet, where there is one, has come so far that a plan with its parts is accepted
+abbrev pub IsPlan : Option Draft → Type 0
+IsPlan None = Unit {0}
+IsPlan (Some d) = Accepted (plan_of d)
+
+abbrev pub IsComplete : Reader → Type 0
+IsComplete r = IsPlan r.draft
+
+-- where the line ends a channel, that channel has come so far
+abbrev pub EndsComplete : Reader → Line → Type 0
+EndsComplete r line.Channel = IsComplete r
+EndsComplete r line.Schedule = IsComplete r
+EndsComplete r _ = Unit {0}
 
 -- WHAT A LINE ADDS
 
@@ -123,10 +138,6 @@ abbrev pub after : Reader → Line → Reader
 after r line = record (told r line) { place = behind r.place line }
 
 -- THE LIMITS
-
--- a quotient, rounded up
-abbrev pub rounded_up : ℕ → ℕ → ℕ
-rounded_up n d = n / d + min 1 (n % d)
 
 abbrev pub is_hop_within : Reader → HopLine → Bool
 is_hop_within r (hop.Fail s) = true

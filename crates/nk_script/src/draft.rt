@@ -1,7 +1,9 @@
 // The channel that the lines read so far describe, until the next channel begins or the channels end.
 
-ghost use Rattle.std.specs.Prelude.{◌≡◌, ◌++◌, ◌∷◌, ◌+◌, ◌≤◌, ◌<◌, [], true, length, OnOk, IfOk};
+ghost use Rattle.std.specs.Prelude.{◌≡◌, ◌++◌, ◌∷◌, ◌+◌, ◌≤◌, ◌<◌, [], true, length, option_to_list, OnOk, IfOk};
+ghost use Rattle.std.specs.Option.{option_map};
 ghost use Rattle.nk_base.specs.Fields.{is_good_field};
+ghost use Rattle.nk_plan.specs.Accepted.{Accepted};
 ghost use Rattle.nk_script.specs.Draft.{hop_of, plan_of, new_draft, new_response, with_hop, with_response, response_count, IsGoodCode};
 
 use crate::line::HopLine;
@@ -268,12 +270,13 @@ impl Draft {
         Ok(())
     }
 
-    /// The plan that the channel is.
-    pub fn into_plan(self) -> Result<ChannelPlan, Memory>
+    /// The plan that the channel is, once its lines have come.
+    pub(crate) fn into_plan(self) -> Result<ChannelPlan, Memory>
+        requires { Accepted (plan_of self) }
         ensures { IfOk result (λ plan. plan ≡ plan_of self) }
     {
         let Draft {
-            mut hops,
+            hops,
             response,
             listener,
             retargetable,
@@ -283,10 +286,8 @@ impl Draft {
             closed,
             start,
         } = self;
-        if let Some(response) = response {
-            hops.push(response.into_hop())?;
-        }
-        Ok(ChannelPlan {
+        let hops = all_hops(hops, response)?;
+        let made = ChannelPlan::new(
             hops,
             listener,
             retargetable,
@@ -295,6 +296,20 @@ impl Draft {
             window,
             closed,
             start,
-        })
+        );
+        match made {
+            Ok(plan) => Ok(plan),
+            Err(_) => unreachable!(),
+        }
     }
+}
+
+// The hops of a channel: those before the response, and the response, where there is one.
+fn all_hops(mut hops: Hops, response: Option<Response>) -> Result<Hops, Memory>
+    ensures { IfOk result (λ all. all ≡ hops ++ option_to_list (option_map hop_of response)) }
+{
+    if let Some(response) = response {
+        hops.push(response.into_hop())?;
+    }
+    Ok(hops)
 }

@@ -1,10 +1,11 @@
 // A script is read line by line.
 
 ghost use Rattle.std.specs.Prelude.{◌≡◌, ◌≤◌, ◌<◌, ◌^◌, ℕ, length, IfOk, IfErr};
+ghost use Rattle.nk_script.specs.declared.line.Line.{Line as AnyLine};
 ghost use Rattle.nk_script.specs.declared.script.Cause.{Cause as AnyCause};
 ghost use Rattle.nk_script.specs.declared.script.Script.{Script as AnyScript};
-ghost use Rattle.nk_script.specs.Draft.{plans_of};
-ghost use Rattle.nk_script.specs.Grammar.{IsTextOf, IsFirstBadLine, script_of};
+ghost use Rattle.nk_script.specs.Draft.{plans_of, IsComplete, EndsComplete};
+ghost use Rattle.nk_script.specs.Grammar.{Stands, IsTextOf, IsFirstBadLine, script_of};
 ghost use Rattle.nk_script.specs.Answers.{IsLineAnswer, Blames, IsScriptOrMemory, IsErrorOrMemory, IsPlayable, error_at};
 ghost use Rattle.nk_script.specs.Texts.{before, behind_line};
 
@@ -51,7 +52,8 @@ fn first_line(text: &[u8]) -> (&[u8], &[u8])
 impl Reader {
     // Takes in the next line.
     pub(crate) fn read_next(&mut self, alloc: Global, text: &[u8]) -> Result<(), Refusal>
-        requires { length (plans_of self.old) ≤ 1024 }
+        requires few { length (plans_of self.old) ≤ 1024 }
+        requires complete { (line : AnyLine) → Stands self.old text.now line → EndsComplete self.old line }
         ensures { IsLineAnswer self.old text.now result self.new }
     {
         let (word, _) = cut(text, b' ');
@@ -78,6 +80,7 @@ impl Reader {
 
     // The script that was read.
     fn into_script(mut self) -> Result<Script, Memory>
+        requires { IsComplete self }
         ensures { IfOk result (λ script. script ≡ script_of self) }
     {
         self.close_channel()?;

@@ -2,8 +2,9 @@
 
 ghost use Rattle.std.specs.Prelude.{◌≡◌, ◌≤◌, nat_lt, length, OnOk};
 ghost use Rattle.nk_script.specs.Order.{behind};
-ghost use Rattle.nk_script.specs.Draft.{start, told, after, is_within, is_hop_within, is_piece_within, is_listener_within, IsSoundListener, size_of, read_of, channel_count, response_count, plans_of, rounded_up, IsSound};
+ghost use Rattle.nk_script.specs.Draft.{start, told, after, is_within, is_hop_within, is_piece_within, is_listener_within, IsSoundListener, size_of, read_of, channel_count, response_count, plans_of, IsComplete, IsSound};
 ghost use Rattle.nk_script.specs.Grammar.{script_of};
+ghost use Rattle.nk_plan.specs.Accepted.{rounded_up};
 
 use crate::draft::Draft;
 use crate::line::{HopLine, Line, Place};
@@ -114,6 +115,7 @@ impl Reader {
 
     // Closes the last channel, if there is one.
     pub(crate) fn close_channel(&mut self) -> Result<(), Memory>
+        requires { IsComplete self.old }
         ensures { OnOk result (self.new ≡ told self.old Line.Schedule) }
     {
         if let Some(draft) = self.draft.take() {

@@ -1,11 +1,7 @@
 // A script: the plans of its channels and the steps of its schedule, and why a text is none.
 
-ghost use Rattle.std.specs.Prelude.{◌≡◌, ◌++◌, ◌∷◌, ◌<◌, [], length, slice_get, Some, OnOk, OnErr};
-
-use nk_base::Memory;
+use nk_base::Items;
 use nk_plan::{Plans, Step};
-use std::alloc::Global;
-use std::marker::Model;
 use thiserror::Error;
 
 /// A step of the schedule. This project's own.
@@ -18,63 +14,7 @@ pub struct ScheduleItem {
 }
 
 /// The steps of a schedule, in their order. This project's own.
-#[derive(Drop)]
-pub struct Steps {
-    steps: Vec<ScheduleItem>,
-}
-
-impl Model for Steps {
-    ghost use Rattle.std.specs.Prelude.{List};
-    ghost use Rattle.nk_script.specs.declared.script.ScheduleItem.{ScheduleItem};
-
-    ghost Value = { List ScheduleItem };
-
-    ghost view = { λ s. s.steps.items };
-}
-
-impl Steps {
-    /// No steps.
-    pub fn new(alloc: Global) -> Steps
-        ensures { result ≡ [] }
-    {
-        Steps {
-            steps: Vec::new(alloc),
-        }
-    }
-
-    /// Adds a step behind the others. On want of memory the list is as before.
-    pub fn push(&mut self, item: ScheduleItem) -> Result<(), Memory>
-        ensures ok { OnOk result (self.new ≡ self.old ++ item ∷ []) }
-        ensures err { OnErr result (self.new ≡ self.old) }
-    {
-        match self.steps.push(item) {
-            Ok(()) => Ok(()),
-            Err(_) => Err(Memory),
-        }
-    }
-
-    /// The number of steps.
-    pub fn len(&self) -> usize
-        ensures { result ≡ length self.now }
-    {
-        self.steps.len()
-    }
-
-    /// Step i, counted from 0.
-    pub fn get(&self, i: usize) -> &ScheduleItem
-        requires { i < length self.now }
-        ensures { slice_get self.now i ≡ Some result.now }
-    {
-        &self.steps[i]
-    }
-
-    /// All steps, in order.
-    pub fn as_slice(&self) -> &[ScheduleItem]
-        ensures { result.now ≡ self.now }
-    {
-        self.steps.as_slice()
-    }
-}
+pub type Steps = Items<ScheduleItem>;
 
 /// A script of loads. This project's own.
 #[derive(Drop)]

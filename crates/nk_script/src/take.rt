@@ -3,7 +3,7 @@
 ghost use Rattle.std.specs.Prelude.{◌≡◌, ◌++◌, ◌∷◌, ◌+◌, ◌<◌, [], true, false, length, OnOk};
 ghost use Rattle.nk_base.specs.Fields.{is_good_field};
 ghost use Rattle.nk_plan.specs.declared.plan.StartLane.TheVariants as lane;
-ghost use Rattle.nk_script.specs.Draft.{told, after, is_within, is_piece_within, is_listener_within, with_hop, in_draft, in_response, size_of, read_of, channel_count, response_count, plans_of, new_draft, IsSound, IsSoundListener, IsGoodCode};
+ghost use Rattle.nk_script.specs.Draft.{told, after, is_within, is_piece_within, is_listener_within, with_hop, in_draft, in_response, size_of, read_of, channel_count, response_count, plans_of, new_draft, IsComplete, EndsComplete, IsSound, IsSoundListener, IsGoodCode};
 
 use crate::draft::Draft;
 use crate::line::{HopLine, Line};
@@ -17,6 +17,7 @@ impl Reader {
     pub(crate) fn take(&mut self, alloc: Global, line: Line) -> Result<(), Memory>
         requires sound { IsSound line }
         requires within { is_within self.old line ≡ true }
+        requires complete { EndsComplete self.old line }
         ensures { OnOk result (self.new ≡ after self.old line) }
     {
         let place = self.place.behind(&line);
@@ -28,6 +29,7 @@ impl Reader {
     fn tell(&mut self, alloc: Global, line: Line) -> Result<(), Memory>
         requires sound { IsSound line }
         requires within { is_within self.old line ≡ true }
+        requires complete { EndsComplete self.old line }
         ensures { OnOk result (self.new ≡ told self.old line) }
     {
         match line {
@@ -69,6 +71,7 @@ impl Reader {
     }
 
     fn open_channel(&mut self, alloc: Global) -> Result<(), Memory>
+        requires { IsComplete self.old }
         ensures { OnOk result (self.new ≡ told self.old Line.Channel) }
     {
         self.close_channel()?;

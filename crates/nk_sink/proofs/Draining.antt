@@ -9,7 +9,8 @@ use Rattle.nk_base.specs.Status.{ok, stream_closed}
 use Rattle.nk_pipe.specs.Pipe.{Pipe, Reader, greatest, room}
 use Rattle.nk_pump.specs.Stream.{Open, Good, Failed}
 use Rattle.nk_pump.specs.Shown.{Shown, answer_by}
-use Rattle.nk_sink.specs.Listener.{Piped, end_of, stream_of, has_done, turn_enabled, piped_enabled, ends_by, status_behind}
+use Rattle.nk_sink.specs.Listener.{Piped, end_of, stream_of, has_done, turn_enabled, piped_enabled, ends_by}
+use Rattle.nk_plan.specs.Readers.{status_behind}
 use Rattle.nk_sink.specs.Held.{ended, AreRead, closed_of, IsPiped}
 use Rattle.nk_sink.proofs.Turning.{ReaderOf, reader_of, pump_at}
 use Rattle.nk_sink.proofs.Lowering.{stream_is, waits}

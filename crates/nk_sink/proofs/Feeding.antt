@@ -4,7 +4,8 @@ use Rattle.std.proofs.lemmas.List.{append_assoc, append-nil}
 use Rattle.nk_base.specs.declared.status.Status.{Status}
 use Rattle.nk_base.specs.declared.message.Entry.{Entry}
 use Rattle.nk_base.specs.declared.message.Entry.TheVariants as entry
-use Rattle.nk_sink.specs.Listener.{Piped, fed, body_of, stop_of}
+use Rattle.nk_sink.specs.Listener.{Piped, fed}
+use Rattle.nk_plan.specs.Readers.{body_of, stop_of}
 use Rattle.nk_sink.specs.Held.{closed_of, MayFlow, IsPiped}
 use Rattle.nk_sink.proofs.Flowing.{flows}
 

@@ -8,7 +8,8 @@ use Rattle.nk_base.specs.declared.message.Entry.{Entry}
 use Rattle.nk_pipe.specs.Pipe.{Pipe, Reader, reader_at, new_pipe, numbered, cloned, read_from, written_to}
 use Rattle.nk_pipe.specs.Kept.{Kept, Stands, count}
 use Rattle.nk_pump.specs.Shown.{Shown, turned}
-use Rattle.nk_sink.specs.Listener.{Piped, closed_behind, flowed, body_of, stop_of, stream_of, pipe_by, pipe_behind, pump_of, read_by}
+use Rattle.nk_sink.specs.Listener.{Piped, closed_behind, flowed, stream_of, pipe_by, pipe_behind, pump_of, read_by}
+use Rattle.nk_plan.specs.Readers.{body_of, stop_of}
 use Rattle.nk_sink.specs.Held.{IsPiped}
 use Rattle.nk_sink.specs.Fed.{pipe_in, piped_with, IsOpenAt, IsAt}
 use Rattle.nk_sink.proofs.Turning.{reader_of}

@@ -8,7 +8,8 @@ use Rattle.nk_base.specs.declared.message.Entry.TheVariants as entry
 use Rattle.nk_pipe.specs.Pipe.{Pipe, Reader, room_for, room, written_to, without_writer, first_close}
 use Rattle.nk_pipe.specs.Kept.{Kept, Stands, count}
 use Rattle.nk_pump.specs.Shown.{Shown}
-use Rattle.nk_sink.specs.Listener.{flowed, body_of, stop_of}
+use Rattle.nk_sink.specs.Listener.{flowed}
+use Rattle.nk_plan.specs.Readers.{body_of, stop_of}
 use Rattle.nk_sink.specs.Fed.{pipe_in, piped_with, IsWithin, IsOpenAt, IsAt, room_in, Passes, MayPass}
 use Rattle.nk_sink.proofs.Feeding.{body_append, stop_append}
 use Rattle.nk_sink.proofs.Pouring.{stands_count, split_at, splits, pipe_of, piped_of, Poured, pours, within_body, flow_on, flow_out}

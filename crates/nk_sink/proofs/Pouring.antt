@@ -7,7 +7,8 @@ use Rattle.nk_base.specs.declared.message.Entry.{Entry}
 use Rattle.nk_pipe.specs.Pipe.{Pipe, Reader, room_for, room, written_to}
 use Rattle.nk_pipe.specs.Kept.{Kept, Stands, count}
 use Rattle.nk_pump.specs.Shown.{Shown}
-use Rattle.nk_sink.specs.Listener.{Piped, closed_behind, flowed, body_of, stop_of}
+use Rattle.nk_sink.specs.Listener.{Piped, closed_behind, flowed}
+use Rattle.nk_plan.specs.Readers.{body_of, stop_of}
 use Rattle.nk_sink.specs.Fed.{pipe_in, room_in}
 use Rattle.nk_sink.proofs.Feeding.{body_append, stop_append}
 

@@ -10,8 +10,9 @@ use Rattle.nk_plan.specs.declared.plan.ListenerKind.TheVariants as kind
 use Rattle.nk_plan.specs.declared.ends.ReaderEnd.{ReaderEnd}
 use Rattle.nk_pipe.specs.Pipe.{Pipe, room}
 use Rattle.nk_pump.specs.Shown.{Shown, nothing_shown}
-use Rattle.nk_sink.specs.Listener.{Piped, piped_of, fed, if_piped, pump_of, read_by, piped_enabled, ends_at, left_at, body_of, stop_of, status_behind}
-use Rattle.nk_sink.specs.Reached.{IsGoodKind, ListenerStep, Enter, Turn, listener_after, OfPiped, KeepsAll, KeptLaw, LowersLaw, IdleLaw, readers_of, ReadersLaw}
+use Rattle.nk_sink.specs.Listener.{Piped, piped_of, fed, if_piped, pump_of, read_by, piped_enabled, ends_at, left_at}
+use Rattle.nk_plan.specs.Readers.{body_of, stop_of, status_behind, readers_of}
+use Rattle.nk_sink.specs.Reached.{IsGoodKind, ListenerStep, Enter, Turn, listener_after, OfPiped, KeepsAll, KeptLaw, LowersLaw, IdleLaw, ReadersLaw}
 use Rattle.nk_sink.specs.Held.{IsFull}
 use Rattle.nk_sink.specs.Sunk.{IsPipedIn}
 use Rattle.nk_sink.proofs.Flowing.{new_is}

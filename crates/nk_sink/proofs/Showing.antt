@@ -16,7 +16,9 @@ use Rattle.nk_pipe.specs.Kept.{Kept, Stands, count}
 use Rattle.nk_pump.specs.Shown.{Shown}
 use Rattle.nk_sink.specs.declared.feed.Feed.{Feed}
 use Rattle.nk_sink.specs.declared.writer.Writer.{Writer}
-use Rattle.nk_sink.specs.Listener.{Piped, Listener, flowed, fed, if_piped, entered, read_turn, piped_enabled, moved_if, body_of, stop_of, pump_of, read_by, ends_by}
+use Rattle.nk_sink.specs.Listener.{Piped, Listener, flowed, fed, if_piped, entered, read_turn, piped_enabled, pump_of, read_by, ends_by}
+use Rattle.nk_plan.specs.Readers.{body_of, stop_of}
+use Rattle.nk_base.specs.Status.{moved_if}
 use Rattle.nk_sink.specs.Reached.{IsReached, ListenerView, Enter, Turn}
 use Rattle.nk_sink.specs.Held.{IsPiped}
 use Rattle.nk_sink.specs.Fed.{pipe_in, piped_with, IsWithin, IsOpenAt, IsAt}

@@ -7,7 +7,8 @@ use Rattle.nk_base.specs.declared.message.Entry.TheVariants as entry
 use Rattle.nk_pipe.specs.Pipe.{Pipe, room_for, written_to, without_writer}
 use Rattle.nk_pipe.specs.Kept.{Kept, Stands, count}
 use Rattle.nk_pump.specs.Shown.{Shown}
-use Rattle.nk_sink.specs.Listener.{Piped, body_of, stop_of}
+use Rattle.nk_sink.specs.Listener.{Piped}
+use Rattle.nk_plan.specs.Readers.{body_of, stop_of}
 
 -- the model of a pipe into which the first bytes of this body were written
 abbrev pub pipe_in : List ℕ → Kept → Pipe

@@ -1,12 +1,11 @@
 -- The listener model: what a listener was shown, and, where it feeds a pipe, the pipe, the bytes that found no room yet
 -- and what the pump of each reader has shown. After Firefox's nsIStreamListener; the pipe behind it is this project's own.
-use Rattle.std.specs.Prelude.{ℕ, ◌+◌, ◌-◌, ◌==◌, ◌||◌, Bool, true, false, List, [], ◌∷◌, ◌++◌, length, drop, replicate, slice_get, slice_set, Option, Some, None, if◌then◌else◌}
+use Rattle.std.specs.Prelude.{ℕ, ◌+◌, ◌-◌, ◌==◌, Bool, true, false, List, [], ◌∷◌, ◌++◌, length, drop, replicate, slice_get, slice_set, Option, Some, None, if◌then◌else◌}
 use Rattle.nk_base.specs.declared.status.Status.{Status}
-use Rattle.nk_base.specs.declared.status.Moved.{Moved}
-use Rattle.nk_base.specs.declared.status.Moved.TheVariants.{Did, Idle}
+use Rattle.nk_base.specs.declared.status.Moved.TheVariants.{Did}
 use Rattle.nk_base.specs.declared.message.Entry.{Entry}
 use Rattle.nk_base.specs.declared.message.Entry.TheVariants as entry
-use Rattle.nk_base.specs.Status.{ok, stream_closed}
+use Rattle.nk_base.specs.Status.{stream_closed}
 use Rattle.nk_plan.specs.declared.plan.ListenerKind.{ListenerKind}
 use Rattle.nk_plan.specs.declared.plan.ListenerKind.TheVariants as kind
 use Rattle.nk_plan.specs.declared.ends.ReaderEnd.{ReaderEnd}
@@ -148,11 +147,6 @@ piped_enabled reader (Some w) = turn_enabled (pump_of w.pumps reader) reader w.p
 abbrev pub read_enabled : ℕ → Listener → Bool
 read_enabled reader l = piped_enabled reader l.piped
 
--- a step that is enabled is made
-abbrev pub moved_if : Bool → Moved
-moved_if true = Did
-moved_if false = Idle
-
 -- WHAT THE READERS HAVE
 
 abbrev pub ends_by : List Shown → List ReaderEnd
@@ -186,27 +180,3 @@ left_at (Some w) = pumps_left (length w.pipe.written + length w.kept) w.pumps
 -- each read that is enabled lowers this
 abbrev pub reads_left : Listener → ℕ
 reads_left l = left_at l.piped
-
--- WHAT IT WAS SHOWN
-
--- the bytes of the data entries before the first stop
-abbrev pub body_of : List Entry → List ℕ
-body_of [] = []
-body_of (entry.Start code status ∷ es) = body_of es
-body_of (entry.Bytes offset piece ∷ es) = piece ++ body_of es
-body_of (entry.Stop status trailers ∷ es) = []
-
--- the status of the first stop
-abbrev pub stop_of : List Entry → Option Status
-stop_of [] = None
-stop_of (entry.Start code status ∷ es) = stop_of es
-stop_of (entry.Bytes offset piece ∷ es) = stop_of es
-stop_of (entry.Stop status trailers ∷ es) = Some status
-
--- the status of a reader's pump behind a stop with this one: that of a stream that was closed in good order is 0
-abbrev pub reader_status : Status → Status
-reader_status s = if (s.0 == 0) || (s.0 == stream_closed.0) then ok else s
-
-abbrev pub status_behind : Option Status → Option Status
-status_behind None = None
-status_behind (Some s) = Some (reader_status s)

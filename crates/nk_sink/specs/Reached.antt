@@ -3,9 +3,9 @@ use Rattle.std.specs.Prelude.{ℕ, ◌≡◌, ◌≤◌, ◌<◌, Bool, true, fa
 use Rattle.nk_base.specs.declared.message.Entry.{Entry}
 use Rattle.nk_plan.specs.declared.plan.ListenerKind.{ListenerKind}
 use Rattle.nk_plan.specs.declared.plan.ListenerKind.TheVariants as kind
-use Rattle.nk_plan.specs.declared.ends.ReaderEnd.{ReaderEnd}
 use Rattle.nk_pipe.specs.Pipe.{room}
-use Rattle.nk_sink.specs.Listener.{Piped, Listener, new_listener, entered, read_turn, read_enabled, reads_left, ends_of, body_of, stop_of, status_behind}
+use Rattle.nk_sink.specs.Listener.{Piped, Listener, new_listener, entered, read_turn, read_enabled, reads_left, ends_of}
+use Rattle.nk_plan.specs.Readers.{body_of, readers_of, whole_end}
 
 -- the ranges of a pipe's sizes
 pub record IsPipeKind (segment limit readers : ℕ) : Type 0 where
@@ -72,13 +72,6 @@ IdleLaw = (k : ListenerKind) (xs : List ListenerStep) (reader : ℕ) → IsGoodK
 -- no read is enabled
 abbrev pub IsDrained : Listener → Type 0
 IsDrained l = (reader : ℕ) → 1 ≤ reader → reader ≤ 8 → read_enabled reader l ≡ false
-
-abbrev pub readers_of : ListenerKind → ℕ
-readers_of kind.Plain = 0
-readers_of (kind.Pipe segment limit readers) = readers
-
-abbrev pub whole_end : List Entry → ReaderEnd
-whole_end entries = record { bytes = body_of entries; status = status_behind (stop_of entries) }
 
 -- once no read is enabled each reader has all bytes of the data entries before the first stop, in order; and its status
 -- is none where no stop was shown, 0 where the stop has 0 or that of a stream closed in good order, and else the stop's

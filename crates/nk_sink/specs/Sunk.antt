@@ -4,7 +4,8 @@ use Rattle.nk_base.specs.declared.message.Entry.{Entry}
 use Rattle.nk_plan.specs.declared.plan.ListenerKind.{ListenerKind}
 use Rattle.nk_plan.specs.declared.ends.ReaderEnd.{ReaderEnd}
 use Rattle.nk_sink.specs.declared.feed.Feed.{Feed}
-use Rattle.nk_sink.specs.Listener.{Piped, Listener, ends_by, body_of, stop_of}
+use Rattle.nk_sink.specs.Listener.{Piped, Listener, ends_by}
+use Rattle.nk_plan.specs.Readers.{body_of, stop_of}
 use Rattle.nk_sink.specs.Reached.{OfPiped, IsReached}
 use Rattle.nk_sink.specs.Held.{IsPiped}
 use Rattle.nk_sink.specs.Fed.{piped_with, IsAt}

@@ -4,7 +4,9 @@ ghost use Rattle.std.specs.Prelude.{◌≡◌, ◌<◌, ◌≤◌, ◌-◌, ◌^
 ghost use Rattle.nk_pipe.specs.Pipe.{new_pipe, reader_at};
 ghost use Rattle.nk_pipe.specs.Kept.{Stands, count};
 ghost use Rattle.nk_pump.specs.Shown.{nothing_shown};
-ghost use Rattle.nk_sink.specs.Listener.{body_of, stop_of, moved_if, turn_enabled, pump_of, read_by, flowed};
+ghost use Rattle.nk_sink.specs.Listener.{turn_enabled, pump_of, read_by, flowed};
+ghost use Rattle.nk_plan.specs.Readers.{body_of, stop_of};
+ghost use Rattle.nk_base.specs.Status.{moved_if};
 ghost use Rattle.nk_sink.specs.Reached.{IsPipeKind};
 ghost use Rattle.nk_sink.specs.Held.{IsPiped};
 ghost use Rattle.nk_sink.specs.Fed.{piped_with};

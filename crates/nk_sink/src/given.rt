@@ -5,7 +5,8 @@ ghost use Rattle.nk_pipe.specs.Pipe.{Pipe as PipeModel, numbered, read_from};
 ghost use Rattle.nk_pipe.specs.Kept.{Stands, count};
 ghost use Rattle.nk_pump.specs.Shown.{turned, turn_answer};
 ghost use Rattle.nk_pump.specs.Stream.{Stream};
-ghost use Rattle.nk_sink.specs.Listener.{stream_of, pipe_behind, moved_if, has_done};
+ghost use Rattle.nk_sink.specs.Listener.{stream_of, pipe_behind, has_done};
+ghost use Rattle.nk_base.specs.Status.{moved_if};
 ghost use Rattle.nk_sink.specs.Given.{end_behind, bytes_in, answered, IsGiven, ReadsNone};
 
 use nk_base::{Memory, Moved, Status};

@@ -3,8 +3,10 @@
 ghost use Rattle.std.specs.Prelude.{◌≡◌, ◌+◌, ◌<◌, ◌≤◌, ◌^◌, ◌++◌, ◌∷◌, [], true, false, List, length, OnOk, OnErr, IfOk};
 ghost use Rattle.nk_base.specs.declared.message.Entry.{Entry as Shows};
 ghost use Rattle.nk_base.specs.declared.status.Moved.TheVariants as moved;
-ghost use Rattle.nk_sink.specs.Listener.{new_listener, if_piped, fed, flowed, entered, read_turn, read_enabled, piped_enabled, pump_of, read_by, moved_if, ends_of, ends_by, body_of};
-ghost use Rattle.nk_sink.specs.Reached.{IsGoodKind, IsReached, readers_of};
+ghost use Rattle.nk_sink.specs.Listener.{new_listener, if_piped, fed, flowed, entered, read_turn, read_enabled, piped_enabled, pump_of, read_by, ends_of, ends_by};
+ghost use Rattle.nk_plan.specs.Readers.{body_of, readers_of};
+ghost use Rattle.nk_base.specs.Status.{moved_if};
+ghost use Rattle.nk_sink.specs.Reached.{IsGoodKind, IsReached};
 ghost use Rattle.nk_sink.specs.Sunk.{piped_in, ends_in, IsFedIn, IsPipedIn};
 
 use crate::feed::Feed;

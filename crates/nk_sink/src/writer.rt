@@ -4,7 +4,8 @@ ghost use Rattle.std.specs.Prelude.{◌≡◌, ◌<◌, ◌≤◌, ◌^◌, min,
 ghost use Rattle.nk_pipe.specs.Pipe.{Pipe as PipeModel, written_to};
 ghost use Rattle.nk_pipe.specs.Kept.{Stands, count};
 ghost use Rattle.nk_pump.specs.Shown.{Shown};
-ghost use Rattle.nk_sink.specs.Listener.{body_of, flowed};
+ghost use Rattle.nk_sink.specs.Listener.{flowed};
+ghost use Rattle.nk_plan.specs.Readers.{body_of};
 ghost use Rattle.nk_sink.specs.Fed.{piped_with, room_in, HasPassed, MayPass, Passes, IsAt};
 
 use nk_base::{Entry, Memory};

@@ -53,8 +53,8 @@ impl Printer {
         Ok(())
     }
 
-    /// Prints an entry of what a listener saw.
-    fn entry(&mut self, entry: &Entry) -> Result<(), Memory>
+    /// Prints an entry of what a listener saw: a line, and for a stop with trailers a line each before it.
+    pub fn entry(&mut self, entry: &Entry) -> Result<(), Memory>
         ensures { OnOk result (self.new ≡ self.old ++ entry_lines entry.now) }
     {
         match entry {

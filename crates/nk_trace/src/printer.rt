@@ -1,6 +1,6 @@
 // The writer of the report: one buffer of bytes, and how numbers, statuses and bytes stand in it.
 
-ghost use Rattle.std.specs.Prelude.{◌≡◌, ◌++◌, ◌∷◌, [], decimal, OnOk};
+ghost use Rattle.std.specs.Prelude.{◌≡◌, ◌++◌, ◌∷◌, [], decimal, OnOk, OnErr};
 ghost use Rattle.nk_trace.specs.Words.{line, code_text, hex_byte, hex_text, status_text};
 
 use hex::encode_to_slice;
@@ -9,7 +9,8 @@ use nk_base::{Memory, Status};
 use std::alloc::Global;
 use std::marker::Model;
 
-/// A text as far as it is printed. After want of memory it may be cut at any byte. This project's own.
+/// A text as far as it is printed. Want of memory inside a line may leave the line cut at any byte; the calls that add one
+/// word, number or status, and the line feed, leave the text as before then. This project's own.
 #[derive(Drop)]
 pub struct Printer {
     bytes: Vec<u8>,
@@ -33,6 +34,20 @@ impl Printer {
         }
     }
 
+    /// The text's bytes, lent.
+    pub fn as_slice(&self) -> &[u8]
+        ensures { result.now ≡ self.now }
+    {
+        self.bytes.as_slice()
+    }
+
+    /// Makes the text empty; its room stays.
+    pub fn clear(&mut self)
+        ensures { self.new ≡ [] }
+    {
+        self.bytes.clear();
+    }
+
     /// The text's bytes.
     pub fn into_bytes(self) -> Vec<u8>
         ensures { result.items ≡ self }
@@ -42,7 +57,8 @@ impl Printer {
 
     /// Prints these bytes as they are.
     pub(crate) fn bytes(&mut self, bytes: &[u8]) -> Result<(), Memory>
-        ensures { OnOk result (self.new ≡ self.old ++ bytes.now) }
+        ensures ok { OnOk result (self.new ≡ self.old ++ bytes.now) }
+        ensures err { OnErr result (self.new ≡ self.old) }
     {
         match self.bytes.extend_from_slice(bytes) {
             Ok(()) => Ok(()),
@@ -52,14 +68,16 @@ impl Printer {
 
     /// Prints a text as it is.
     pub fn word(&mut self, word: &str) -> Result<(), Memory>
-        ensures { OnOk result (self.new ≡ self.old ++ word.now) }
+        ensures ok { OnOk result (self.new ≡ self.old ++ word.now) }
+        ensures err { OnErr result (self.new ≡ self.old) }
     {
         self.bytes(word.as_bytes())
     }
 
     /// Prints a number in decimal.
     pub fn decimal(&mut self, number: u64) -> Result<(), Memory>
-        ensures { OnOk result (self.new ≡ self.old ++ decimal number) }
+        ensures ok { OnOk result (self.new ≡ self.old ++ decimal number) }
+        ensures err { OnErr result (self.new ≡ self.old) }
     {
         let mut buffer = Buffer::new();
         self.word(buffer.format(number))
@@ -81,7 +99,8 @@ impl Printer {
 
     /// Prints bytes, as two hexadecimal digits each.
     pub(crate) fn hex(&mut self, bytes: &[u8]) -> Result<(), Memory>
-        ensures { OnOk result (self.new ≡ self.old ++ hex_text bytes.now) }
+        ensures ok { OnOk result (self.new ≡ self.old ++ hex_text bytes.now) }
+        ensures err { OnErr result (self.new ≡ self.old) }
     {
         let start = self.bytes.len();
         let Some(end) = bytes
@@ -97,13 +116,17 @@ impl Printer {
         }
         match encode_to_slice(bytes, &mut self.bytes[start..]) {
             Ok(()) => Ok(()),
-            Err(_) => Err(Memory),
+            Err(_) => {
+                self.bytes.truncate(start);
+                Err(Memory)
+            }
         }
     }
 
     /// Prints the kind of a message, as two hexadecimal digits.
     pub fn kind(&mut self, kind: u8) -> Result<(), Memory>
-        ensures { OnOk result (self.new ≡ self.old ++ hex_byte kind) }
+        ensures ok { OnOk result (self.new ≡ self.old ++ hex_byte kind) }
+        ensures err { OnErr result (self.new ≡ self.old) }
     {
         self.hex(&[kind])
     }
@@ -111,7 +134,8 @@ impl Printer {
     /// Prints a status, as eight hexadecimal digits.
     #[tactic(auto, unfolding(crate::specs::Words::status_text))]
     pub fn status(&mut self, status: Status) -> Result<(), Memory>
-        ensures { OnOk result (self.new ≡ self.old ++ status_text status) }
+        ensures ok { OnOk result (self.new ≡ self.old ++ status_text status) }
+        ensures err { OnErr result (self.new ≡ self.old) }
     {
         self.hex(&status.0.to_be_bytes())
     }
@@ -128,7 +152,8 @@ impl Printer {
 
     /// Ends a line.
     pub fn line_feed(&mut self) -> Result<(), Memory>
-        ensures { OnOk result (self.new ≡ self.old ++ 10 ∷ []) }
+        ensures ok { OnOk result (self.new ≡ self.old ++ 10 ∷ []) }
+        ensures err { OnErr result (self.new ≡ self.old) }
     {
         self.word("\n")
     }

@@ -10,6 +10,7 @@ use Rattle.nk_wire.proofs.Steps.{within-bounds}
 use Rattle.nk_wire.proofs.Ranges.{within-from}
 use Rattle.nk_wire.proofs.Numbers.{AreBytes, AreBytes-front, little-from_little, from_little-little, from_little-below}
 use Rattle.nk_wire.proofs.Firsts.{first-whole}
+use Rattle.nk_wire.specs.Kinds.{longest_rest}
 
 -- the length of bytes that begin with one
 pub length_of-begun : (n : ℕ) (behind : List ℕ) → n < 2 ^ 32 → length_of (little U32 n ++ behind) ≡ n
@@ -34,11 +35,11 @@ not_both false b h = inl refl
 no_more : (n : ℕ) → n < 1 → n ≡ 0
 no_more n h = omega arith
 
-not_within : (n : ℕ) → is_length n ≡ false → (n ≡ 0) ⊎ (528653 < n)
+not_within : (n : ℕ) → is_length n ≡ false → (n ≡ 0) ⊎ (longest_rest < n)
 not_within n h =
-    elim (not_both (leb 1 n) (leb n 528653) h) [
+    elim (not_both (leb 1 n) (leb n longest_rest) h) [
       | inl none ↦ inl (no_more n (leb-false 1 n none))
-      | inr over ↦ inr (leb-false n 528653 over)
+      | inr over ↦ inr (leb-false n longest_rest over)
     ]
 
 part-is : (bytes : List ℕ) → 4 ≤ length bytes → AreBytes bytes → is_length (length_of bytes) ≡ true → length (drop 4 bytes) < length_of bytes → IsPart bytes
@@ -48,7 +49,7 @@ part-is bytes four are fits short =
     let more = replicate (n - length behind) 0 in
     let more_length : length more ≡ n - length behind = length-replicate (n - length behind) 0 in
     let rest_length : length (behind ++ more) ≡ n = omega (arith, length-append behind more, more_length) in
-    let bounds = within-bounds 1 528653 n fits in
+    let bounds = within-bounds 1 longest_rest n fits in
     let spelled : bytes ++ more ≡ little U32 n ++ (behind ++ more) = ap (λ (l : List ℕ). l ++ more) (begun-by bytes four are) ∙ append_assoc (little U32 n) behind more in
     inr (more, behind ++ more, omega (arith, more_length), (omega (arith, rest_length, bounds.0), omega (arith, rest_length, bounds.1)), subst (λ (k : ℕ). bytes ++ more ≡ little U32 k ++ (behind ++ more)) (sym rest_length) spelled)
 
@@ -57,7 +58,7 @@ whole-is bytes four are fits all =
     let n = length_of bytes in
     let behind = drop 4 bytes in
     let size : length (take n behind) ≡ n = length-take-le n behind all in
-    let bounds = within-bounds 1 528653 n fits in
+    let bounds = within-bounds 1 longest_rest n fits in
     let parts : behind ≡ take n behind ++ drop n behind = sym (take-append-drop n behind) in
     let spelled : bytes ≡ (little U32 n ++ take n behind) ++ drop n behind = begun-by bytes four are ∙ ap (λ (l : List ℕ). little U32 n ++ l) parts ∙ sym (append_assoc (little U32 n) (take n behind) (drop n behind)) in
     (subst (λ (k : ℕ). bytes ≡ (little U32 k ++ take n behind) ++ drop n behind) (sym size) spelled, (omega (arith, size, bounds.0), omega (arith, size, bounds.1)))
@@ -83,16 +84,16 @@ first-is bytes are = by_length bytes (ltb (length bytes) 4) are refl
 
 -- From the words to what is computed.
 
-lt-leb : (n : ℕ) → 528653 < n → leb n 528653 ≡ false
+lt-leb : (n : ℕ) → longest_rest < n → leb n longest_rest ≡ false
 lt-leb n over = grind arith
 
 over_range : (a b : Bool) → b ≡ false → (a && b) ≡ false
 over_range true b h = h
 over_range false b h = refl
 
-out_of_range : (n : ℕ) → (n ≡ 0) ⊎ (528653 < n) → is_length n ≡ false
+out_of_range : (n : ℕ) → (n ≡ 0) ⊎ (longest_rest < n) → is_length n ≡ false
 out_of_range n (inl none) = rw none refl
-out_of_range n (inr over) = over_range (leb 1 n) (leb n 528653) (lt-leb n over)
+out_of_range n (inr over) = over_range (leb 1 n) (leb n longest_rest) (lt-leb n over)
 
 pub frame-first : (rest more : List ℕ) → IsRest rest → first (frame rest ++ more) ≡ Whole rest more
 frame-first rest more r =
@@ -118,7 +119,7 @@ part-first bytes more rest some r h false long =
     let behind : drop 4 bytes ++ more ≡ rest = sym (drop-append-le 4 bytes more four) ∙ ap (drop 4) h ∙ drop_at (little U32 n) rest 4 refl in
     let sizes : length (drop 4 bytes) + length more ≡ n = sym (length-append (drop 4 bytes) more) ∙ ap length behind in
     let short : ltb (length (drop 4 bytes)) n ≡ true = lt-ltb (length (drop 4 bytes)) n (omega (arith, sizes)) in
-    let fits : is_length n ≡ true = within-from 1 528653 n r.0 r.1 in
+    let fits : is_length n ≡ true = within-from 1 longest_rest n r.0 r.1 in
     rw (long, is, fits, short) refl
 
 -- nothing else is what the words say

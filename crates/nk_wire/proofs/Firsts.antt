@@ -10,15 +10,16 @@ use Rattle.nk_wire.specs.Reading.{any_answer}
 use Rattle.nk_wire.specs.Streams.{Stream, First, Part, BadLength, Whole, first, whole, is_length, length_of, Looks, IsNext, error_at, kept_after}
 use Rattle.nk_wire.proofs.Ranges.{within-from}
 use Rattle.nk_wire.proofs.Rows.{chosen}
+use Rattle.nk_wire.specs.Kinds.{longest_rest}
 
-pub first-whole : (bytes : List ℕ) (n : ℕ) → 4 ≤ length bytes → length_of bytes ≡ n → 1 ≤ n → n ≤ 528653 → n ≤ length (drop 4 bytes) → first bytes ≡ Whole (take n (drop 4 bytes)) (drop n (drop 4 bytes))
+pub first-whole : (bytes : List ℕ) (n : ℕ) → 4 ≤ length bytes → length_of bytes ≡ n → 1 ≤ n → n ≤ longest_rest → n ≤ length (drop 4 bytes) → first bytes ≡ Whole (take n (drop 4 bytes)) (drop n (drop 4 bytes))
 first-whole bytes n four is least most all =
     let has : ltb (length bytes) 4 ≡ false = le-ltb _ _ four in
-    let fits : is_length n ≡ true = within-from 1 528653 n least most in
+    let fits : is_length n ≡ true = within-from 1 longest_rest n least most in
     let long : ltb (length (drop 4 bytes)) n ≡ false = le-ltb _ _ all in
     rw (has, is, fits, long) refl
 
-pub looks-whole : (bytes : List ℕ) (n : ℕ) (m : AnyMsg) → 4 ≤ length bytes → length_of bytes ≡ n → 1 ≤ n → n ≤ 528653 → n ≤ length (drop 4 bytes) → any_answer (take n (drop 4 bytes)) ≡ Ok m → Looks (first bytes) (Ok (Some (m, 4 + n)))
+pub looks-whole : (bytes : List ℕ) (n : ℕ) (m : AnyMsg) → 4 ≤ length bytes → length_of bytes ≡ n → 1 ≤ n → n ≤ longest_rest → n ≤ length (drop 4 bytes) → any_answer (take n (drop 4 bytes)) ≡ Ok m → Looks (first bytes) (Ok (Some (m, 4 + n)))
 looks-whole bytes n m four is least most all read =
     let size : length (take n (drop 4 bytes)) ≡ n = length-take-le n (drop 4 bytes) all in
     rw (first-whole bytes n four is least most all) (read, ap (λ (k : ℕ). 4 + k) (sym size))

@@ -7,6 +7,7 @@ mod HeaderLoop
 pub mod Heads
 pub mod MainWire
 pub mod Numbers
+pub mod OneFrames
 pub mod Openings
 pub mod Ranges
 pub mod Rows

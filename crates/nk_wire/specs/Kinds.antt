@@ -11,6 +11,10 @@ use Rattle.nk_base.specs.Status.{is_failure, is_legal_status}
 use Rattle.nk_base.specs.Heads.{HeadParts, is_status_code}
 use Rattle.nk_wire.specs.Layouts.{Layout, Number, Bytes, Headers, Done, U16, U32, U64}
 
+-- the most bytes behind a frame's length: those of a start with 64 of the largest fields
+abbrev pub longest_rest : ℕ
+longest_rest = 528653
+
 -- The ranges of the fields.
 
 abbrev pub status_of : ℕ → Status

@@ -3,3 +3,4 @@ pub mod Kinds
 pub mod Spelling
 pub mod Reading
 pub mod Streams
+pub mod OneFrame

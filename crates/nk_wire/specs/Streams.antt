@@ -7,7 +7,7 @@ use Rattle.nk_wire.specs.declared.error.FrameCause.TheVariants as cause
 use Rattle.nk_wire.specs.declared.error.FrameError.{FrameError}
 use Rattle.nk_wire.specs.declared.message.AnyMsg.{AnyMsg}
 use Rattle.nk_wire.specs.Layouts.{U32, from_little, little}
-use Rattle.nk_wire.specs.Kinds.{within}
+use Rattle.nk_wire.specs.Kinds.{within, longest_rest}
 use Rattle.nk_wire.specs.Spelling.{SpellsAny, frame}
 use Rattle.nk_wire.specs.Reading.{Fails, any_answer}
 
@@ -22,7 +22,7 @@ new_stream = record { unused = []; offset = 0; error = None }
 
 -- a length that a frame may have
 abbrev pub is_length : ℕ → Bool
-is_length n = within 1 528653 n
+is_length n = within 1 longest_rest n
 
 -- What stands first.
 
@@ -50,7 +50,7 @@ first bytes =
 
 -- any rest whose length is in range
 abbrev pub IsRest : List ℕ → Type 0
-IsRest rest = (1 ≤ length rest) × (length rest ≤ 528653)
+IsRest rest = (1 ≤ length rest) × (length rest ≤ longest_rest)
 
 -- a proper prefix of a frame whose rest is any in range; or the length is not there
 abbrev pub IsPart : List ℕ → Type 0
@@ -59,7 +59,7 @@ IsPart bytes =
 
 abbrev pub IsFirst : List ℕ → First → Type 0
 IsFirst bytes Part = IsPart bytes
-IsFirst bytes (BadLength n) = (more : List ℕ) × (bytes ≡ little U32 n ++ more) × (n < 2 ^ 32) × ((n ≡ 0) ⊎ (528653 < n))
+IsFirst bytes (BadLength n) = (more : List ℕ) × (bytes ≡ little U32 n ++ more) × (n < 2 ^ 32) × ((n ≡ 0) ⊎ (longest_rest < n))
 IsFirst bytes (Whole rest more) = (bytes ≡ frame rest ++ more) × IsRest rest
 
 -- Whole streams.

@@ -3,7 +3,7 @@
 ghost use Rattle.std.specs.Prelude.{◌≡◌, ◌≤◌, ◌+◌, length, true, IfOk};
 ghost use Rattle.nk_base.specs.Fields.{is_good_name, is_good_value, is_good_field, are_good_fields};
 ghost use Rattle.nk_wire.specs.Layouts.{U16, U32, U64};
-ghost use Rattle.nk_wire.specs.Kinds.{within, any_number, any_bytes, is_hop, is_status, is_failing, is_ok};
+ghost use Rattle.nk_wire.specs.Kinds.{within, any_number, any_bytes, is_hop, is_status, is_failing, is_ok, longest_rest};
 ghost use Rattle.nk_wire.specs.Reading.{Gives, begin, bytes_at, in_range_at, whole_number_at, number_at, text_at, header_at, headers_at, kind_at, at_end};
 
 use crate::error::DecodeError;
@@ -21,12 +21,13 @@ pub struct Cursor<'a> {
 impl<'a> Model for Cursor<'a> {
     ghost use Rattle.std.specs.Prelude.{◌+◌, ◌≤◌, length};
     ghost use Rattle.nk_wire.specs.Reading.{Place};
+    ghost use Rattle.nk_wire.specs.Kinds.{longest_rest};
 
     ghost Value = { Place };
 
     ghost view = { λ c. record { at = c.at; left = c.left.now } };
 
-    ghost invariant = { λ c. c.at + length c.left.now ≤ 528653 };
+    ghost invariant = { λ c. c.at + length c.left.now ≤ longest_rest };
 }
 
 /// A field that began at this place, where it is in range.
@@ -43,7 +44,7 @@ fn in_range<T: Drop>(value: T, is_in_range: bool, at: u32) -> Result<T, DecodeEr
 impl<'a> Cursor<'a> {
     /// The place before the first byte.
     pub fn new(rest: &'a [u8]) -> Cursor<'a>
-        requires { length rest.now ≤ 528653 }
+        requires { length rest.now ≤ longest_rest }
         ensures { result ≡ begin rest.now }
     {
         Cursor { at: 0, left: rest }

@@ -1,10 +1,11 @@
 // A whole frame, and how one is written.
 
-ghost use Rattle.std.specs.Prelude.{◌≡◌, ◌++◌, ◌≤◌, ◌<◌, ◌+◌, ◌*◌, ◌^◌, ◌∷◌, [], length, true, IfOk, OnOk};
+ghost use Rattle.std.specs.Prelude.{◌≡◌, ◌++◌, ◌≤◌, ◌<◌, ◌+◌, ◌*◌, ◌^◌, ◌∷◌, [], length, drop, true, IfOk, OnOk};
 ghost use Rattle.std.specs.List.{flat_map};
 ghost use Rattle.nk_base.specs.Fields.{are_good_fields, is_good_field};
 ghost use Rattle.nk_wire.specs.Layouts.{little, U16, U32, U64};
 ghost use Rattle.nk_wire.specs.Spelling.{field, fields};
+ghost use Rattle.nk_wire.specs.Kinds.{longest_rest};
 
 use nk_base::{Field, Fields, Memory};
 use std::alloc::Global;
@@ -32,9 +33,19 @@ impl Frame {
         self.bytes.as_slice()
     }
 
+    /// The rest, which a decoder reads: what stands behind the 4 bytes of the length.
+    pub fn rest(&self) -> &[u8]
+        ensures { result.now ≡ drop 4 self.now }
+    {
+        match self.bytes.as_slice() {
+            [_, _, _, _, rest @ ..] => rest,
+            _ => &[],
+        }
+    }
+
     /// A frame with a rest of this size, of which the length is written, and for which there is room.
     pub(crate) fn with_length(alloc: Global, size: u32) -> Result<Frame, Memory>
-        requires { size ≤ 528653 }
+        requires { size ≤ longest_rest }
         ensures { IfOk result (λ f. f ≡ little U32 size) }
     {
         let Ok(bytes) = Vec::with_capacity(alloc, 4 + size as usize) else {

@@ -9,6 +9,7 @@ mod decode;
 mod encode;
 mod error;
 mod frame;
+mod framed;
 mod frames;
 mod kind;
 mod laws;
@@ -28,6 +29,9 @@ pub use decode::{decode_any, decode_back, decode_main, decode_up};
 pub use encode::{encode_back, encode_main, encode_up};
 pub use error::{DecodeError, FrameCause, FrameError};
 pub use frame::Frame;
+pub use framed::Framed;
 pub use frames::Frames;
-pub use laws::{frames_are_read, none_begins_another, one_spelling, one_stands_first};
+pub use laws::{
+    each_lane_is_read, frames_are_read, none_begins_another, one_spelling, one_stands_first,
+};
 pub use message::AnyMsg;

@@ -2,6 +2,7 @@
 
 ghost use Rattle.std.specs.Prelude.{◌≡◌, ◌≤◌, length};
 ghost use Rattle.nk_wire.specs.Reading.{Gives, any_by_kind, any_answer};
+ghost use Rattle.nk_wire.specs.Kinds.{longest_rest};
 
 use crate::error::DecodeError;
 use crate::message::AnyMsg;
@@ -10,7 +11,7 @@ use std::alloc::Global;
 
 /// What the rest says on the lane that has this kind, or its first fault.
 fn by_kind(alloc: Global, kind: u8, rest: &[u8]) -> Result<AnyMsg, DecodeError>
-    requires { length rest.now ≤ 528653 }
+    requires { length rest.now ≤ longest_rest }
     ensures { Gives (λ m. m) result (any_by_kind kind rest.now) }
 {
     if kind::is_main(kind) {
@@ -24,7 +25,7 @@ fn by_kind(alloc: Global, kind: u8, rest: &[u8]) -> Result<AnyMsg, DecodeError>
 
 /// What the rest says, or its first fault.
 pub fn answer(alloc: Global, rest: &[u8]) -> Result<AnyMsg, DecodeError>
-    requires { length rest.now ≤ 528653 }
+    requires { length rest.now ≤ longest_rest }
     ensures { Gives (λ m. m) result (any_answer rest.now) }
 {
     match rest {

@@ -1,7 +1,7 @@
 // The messages of the background lane, read from the rest of a frame.
 
 ghost use Rattle.std.specs.Prelude.{◌≡◌, ◌≤◌, length};
-ghost use Rattle.nk_wire.specs.Kinds.{back_start, start_sent, bytes, stop, stop_with_trailers, back_kinds, second_kinds};
+ghost use Rattle.nk_wire.specs.Kinds.{back_start, start_sent, bytes, stop, stop_with_trailers, back_kinds, second_kinds, longest_rest};
 ghost use Rattle.nk_wire.specs.Reading.{Gives, read, read_kind, second_message, back_message, back_answer};
 
 use crate::cursor::Cursor;
@@ -94,7 +94,7 @@ fn message(alloc: Global, kind: u8, cursor: &mut Cursor) -> Result<BackMsg, Deco
 
 /// What the rest says, or its first fault.
 pub fn answer(alloc: Global, rest: &[u8]) -> Result<BackMsg, DecodeError>
-    requires { length rest.now ≤ 528653 }
+    requires { length rest.now ≤ longest_rest }
     ensures { Gives (λ m. m) result (back_answer rest.now) }
 {
     let mut cursor = Cursor::new(rest);

@@ -1,7 +1,7 @@
 // The messages of the main lane, read from the rest of a frame.
 
 ghost use Rattle.std.specs.Prelude.{◌≡◌, ◌≤◌, length};
-ghost use Rattle.nk_wire.specs.Kinds.{main_start, failed_open, redirect1, redirect3, main_kinds};
+ghost use Rattle.nk_wire.specs.Kinds.{main_start, failed_open, redirect1, redirect3, main_kinds, longest_rest};
 ghost use Rattle.nk_wire.specs.Reading.{Gives, read, read_kind, main_answer};
 
 use crate::cursor::Cursor;
@@ -57,7 +57,7 @@ fn message(alloc: Global, kind: u8, cursor: &mut Cursor) -> Result<MainMsg, Deco
 
 /// What the rest says, or its first fault.
 pub fn answer(alloc: Global, rest: &[u8]) -> Result<MainMsg, DecodeError>
-    requires { length rest.now ≤ 528653 }
+    requires { length rest.now ≤ longest_rest }
     ensures { Gives (λ m. m) result (main_answer rest.now) }
 {
     let mut cursor = Cursor::new(rest);

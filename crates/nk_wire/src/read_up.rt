@@ -1,7 +1,7 @@
 // The messages of the up lane, read from the rest of a frame.
 
 ghost use Rattle.std.specs.Prelude.{◌≡◌, ◌≤◌, length};
-ghost use Rattle.nk_wire.specs.Kinds.{cancel, verify, bytes_read, up_kinds};
+ghost use Rattle.nk_wire.specs.Kinds.{cancel, verify, bytes_read, up_kinds, longest_rest};
 ghost use Rattle.nk_wire.specs.Reading.{Gives, read, read_kind, up_answer};
 
 use crate::cursor::Cursor;
@@ -49,7 +49,7 @@ fn message(kind: u8, cursor: &mut Cursor) -> Result<UpMsg, DecodeError>
 
 /// What the rest says, or its first fault.
 pub fn answer(rest: &[u8]) -> Result<UpMsg, DecodeError>
-    requires { length rest.now ≤ 528653 }
+    requires { length rest.now ≤ longest_rest }
     ensures { Gives (λ m. m) result (up_answer rest.now) }
 {
     let mut cursor = Cursor::new(rest);

@@ -6,6 +6,7 @@ ghost use Rattle.nk_base.specs.declared.message.BackMsg.TheVariants.{Bytes as Sp
 ghost use Rattle.nk_base.specs.Fields.{are_good_fields};
 ghost use Rattle.nk_base.specs.Ranges.{IsBackInRange};
 ghost use Rattle.nk_wire.specs.Spelling.{BackFits, HasFourBytes, stop, back_rest};
+ghost use Rattle.nk_wire.specs.Kinds.{longest_rest};
 
 use crate::frame::{Frame, headers_size};
 use crate::{kind, write_start};
@@ -16,7 +17,7 @@ fn stop_size(trailers: &Fields) -> u32
     requires count { length trailers.now ≤ 64 }
     requires good { are_good_fields trailers.now ≡ true }
     ensures size { (hop : ℕ) (status : SpecStatus) → result ≡ length (stop hop status trailers.now) }
-    ensures bounded { result ≤ 528653 }
+    ensures bounded { result ≤ longest_rest }
 {
     if trailers.len() == 0 {
         return 9;
@@ -28,7 +29,7 @@ fn stop_size(trailers: &Fields) -> u32
 pub fn size(m: &BackMsg) -> u32
     requires { IsBackInRange m.now }
     ensures size { result ≡ length (back_rest m.now) }
-    ensures bounded { result ≤ 528653 }
+    ensures bounded { result ≤ longest_rest }
 {
     match m {
         BackMsg::StartSent { .. } => 5,

@@ -3,6 +3,7 @@
 ghost use Rattle.std.specs.Prelude.{◌≡◌, ◌++◌, ◌≤◌, length, OnOk};
 ghost use Rattle.nk_base.specs.Ranges.{IsMainInRange};
 ghost use Rattle.nk_wire.specs.Spelling.{MainFits, main_rest};
+ghost use Rattle.nk_wire.specs.Kinds.{longest_rest};
 
 use crate::frame::Frame;
 use crate::{kind, write_start};
@@ -12,7 +13,7 @@ use nk_base::{MainMsg, Memory};
 pub fn size(m: &MainMsg) -> u32
     requires { IsMainInRange m.now }
     ensures size { result ≡ length (main_rest m.now) }
-    ensures bounded { result ≤ 528653 }
+    ensures bounded { result ≤ longest_rest }
 {
     match m {
         MainMsg::Start { head, .. } => 1 + write_start::size(head),

@@ -18,7 +18,7 @@ use Rattle.nk_world.specs.End.{end_of, IsEnd}
 use Rattle.nk_base.specs.declared.status.Moved.{Moved}
 use Rattle.nk_base.specs.declared.status.Moved.TheVariants.{Idle}
 use Rattle.nk_base.specs.declared.status.Memory.{Memory}
-use Rattle.nk_child.specs.Moved.{moved_if}
+use Rattle.nk_base.specs.Status.{moved_if}
 use Rattle.nk_world.specs.Laws.{PlayLaws}
 use Rattle.nk_world.proofs.Idle.{idle_step}
 use Rattle.nk_world.proofs.Plays.{reached_new}

@@ -3,7 +3,7 @@ use Rattle.std.proofs.Common.{ℕ, zero, suc, ◌≡◌, ◌<◌, refl, sym, ◌
 use Rattle.nk_base.specs.declared.status.Moved.{Moved}
 use Rattle.nk_base.specs.declared.status.Moved.TheVariants.{Did, Idle}
 use Rattle.nk_plan.specs.declared.step.Step.{Step}
-use Rattle.nk_child.specs.Moved.{moved_if}
+use Rattle.nk_base.specs.Status.{moved_if}
 use Rattle.nk_world.proofs.Tools.{by_bool}
 use Rattle.nk_world.specs.declared.playing.Playing.{Playing}
 use Rattle.nk_world.specs.Play.{Play, play_step, play_enabled, tried, are_idle, round_steps, round, rounds, IsReached, IsQuiet, either}

@@ -15,10 +15,12 @@ use Rattle.nk_plan.specs.Enabled.{IsSettled}
 use Rattle.nk_plan.specs.Calm.{IsCalm, calm_trace}
 use Rattle.nk_laws.specs.Laws.{JoinedLaw, StateLaw, OrderRunsLaw, RunLaw, EndingLaw, CalmLaw, ClosedLaw}
 use Rattle.nk_laws.specs.Moves.{Joined}
+use Rattle.nk_half_laws.specs.Offsets.{BodyLaw}
 use Rattle.nk_sink.specs.Listener.{Listener, ends_of}
-use Rattle.nk_sink.specs.Reached.{IsDrained, ReadersLaw, readers_of, whole_end}
+use Rattle.nk_sink.specs.Reached.{IsDrained, ReadersLaw}
+use Rattle.nk_plan.specs.Readers.{readers_of, whole_end}
 use Rattle.nk_world.specs.Play.{Play, IsReached, IsQuiet}
-use Rattle.nk_world.specs.End.{end_of, IsEnd}
+use Rattle.nk_world.specs.End.{end_of, calm_ending, IsEnd}
 use Rattle.nk_world.proofs.Settled.{settled, pumped}
 
 -- what the layers below say of a channel that was drained
@@ -30,6 +32,7 @@ pub record EndLaws : Type 0 where
   pub ends : EndingLaw
   pub calm : CalmLaw
   pub closed : ClosedLaw
+  pub body : BodyLaw
   pub readers : ReadersLaw
 
 ran : (p : Play) → IsReached p → OrderRunsLaw → Run p.plan p.channel.parent.journal p.channel.child.journal p.channel.forwarded
@@ -68,6 +71,21 @@ only_closed false true suspended e = cc
 only_closed false false true e = cc
 only_closed false false false e = cc
 
+-- what is closed is unopened
+closed_ending : (c : ChannelPlan) (stopped suspended : Bool) → c.closed ≡ true → (if c.closed then Unopened else (if stopped then Stopped else (if suspended then Suspended else Going))) ≡ Unopened
+closed_ending c stopped suspended e = rw e refl
+
+-- what has stopped is not closed
+never_closed : (closed stopped suspended : Bool) → (if closed then Unopened else (if stopped then Stopped else (if suspended then Suspended else Going))) ≡ Stopped → closed ≡ false
+never_closed true stopped suspended e = cc
+never_closed false stopped suspended e = refl
+
+ends_unopened : (c : ChannelPlan) → c.closed ≡ true → calm_ending c ≡ Unopened
+ends_unopened c e = rw e refl
+
+ends_stopped : (c : ChannelPlan) → c.closed ≡ false → calm_ending c ≡ Stopped
+ends_stopped c e = rw e refl
+
 closed_trace : (c : ChannelPlan) → c.closed ≡ true → calm_trace c ≡ []
 closed_trace c e = rw e refl
 
@@ -84,20 +102,34 @@ calmed p r law q i =
     t ∙ ((law.closed c p.channel.parent.journal j p.channel.forwarded closed run).3 ∙ sym (closed_trace c closed)))
     (λ e. absurd (over p r law.ends q e))
 
+calm_ended : (p : Play) → IsReached p → EndLaws → IsQuiet p → IsCalm p.plan → ending_of p.plan p.channel.child.journal ≡ calm_ending p.plan
+calm_ended p r law q i =
+    let c = p.plan in
+    let j = p.channel.child.journal in
+    let run : Run c p.channel.parent.journal j p.channel.forwarded = ran p r law.orders in
+    by_ending (ending_of c j)
+    (λ e. e ∙ sym (ends_stopped c (never_closed c.closed _ _ e)))
+    (λ e. absurd ((law.calm c p.channel.parent.journal j p.channel.forwarded r.accepted i run).1 e))
+    (λ e. e ∙ sym (ends_unopened c (only_closed c.closed _ _ e)))
+    (λ e. absurd (over p r law.ends q e))
+
 pub is_end : (p : Play) → IsReached p → EndLaws → IsQuiet p → IsEnd p.plan (end_of p)
 is_end p r law q =
     let c = p.plan in
     let j = p.channel.child.journal in
     let run : Run c p.channel.parent.journal j p.channel.forwarded = ran p r law.orders in
     let t : p.listener.entries ≡ trace_of c j = told p r law.joined law.state in
+    let sequential : SeqTrace c (final j) (first j) (cut j) p.listener.entries
+    = subst (λ (x : List Entry). SeqTrace c (final j) (first j) (cut j) x) (sym t) (law.run c p.channel.parent.journal j p.channel.forwarded r.accepted run) in
     record {
       run = run;
-      sequential =
-          subst (λ (x : List Entry). SeqTrace c (final j) (first j) (cut j) x) (sym t) (law.run c p.channel.parent.journal j p.channel.forwarded r.accepted run);
+      sequential = sequential;
       told = t;
       ending = refl;
       over = over p r law.ends q;
+      unopened = (λ e. only_closed c.closed _ _ e, λ e. closed_ending c _ _ e);
+      bounded = law.body c (final j) (first j) (cut j) p.listener.entries r.accepted sequential;
       readers = read p r law.readers q;
       calm = λ i. calmed p r law q i;
-      not_suspended = λ i. (law.calm c p.channel.parent.journal j p.channel.forwarded r.accepted i run).1;
+      calm_ended = λ i. calm_ended p r law q i;
     }

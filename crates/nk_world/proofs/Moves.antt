@@ -6,8 +6,7 @@ use Rattle.nk_base.specs.declared.status.Memory.{Memory}
 use Rattle.nk_plan.specs.declared.step.Step.{Step}
 use Rattle.nk_plan.specs.declared.step.Step.TheVariants.{Read}
 use Rattle.nk_plan.specs.Channel.{Channel, channel_step}
-use Rattle.nk_child.specs.Moved.{moved_if}
-use Rattle.nk_sink.specs.Listener as listens
+use Rattle.nk_base.specs.Status.{moved_if}
 use Rattle.nk_sink.specs.Listener.{Listener, entered_all, read_turn, read_enabled}
 use Rattle.nk_sink.specs.Reached.{ListenerView}
 use Rattle.nk_channel.specs.Parts.{Parts, parts_of, parts_step, parts_enabled, shown_by, IsRoomy}
@@ -96,18 +95,14 @@ stepped (Ok m) x s new n h law d a =
     }
 stepped (Err e) x s new n h law d a = record { sound = d; state = d; answer = a }
 
-same_moved : (b : Bool) → listens.moved_if b ≡ moved_if b
-same_moved true = refl
-same_moved false = refl
-
 -- a pump has had its turn
 pub turned : (r : Result Moved Memory) (reader : ℕ) (s : Playing) (l : ListenerView) → IsSound s → PlayLaws
-    → OnOk r (l ≡ heard (read_turn reader s.listener.listener)) → IfOk r (λ m. m ≡ listens.moved_if (read_enabled reader s.listener.listener))
+    → OnOk r (l ≡ heard (read_turn reader s.listener.listener)) → IfOk r (λ m. m ≡ moved_if (read_enabled reader s.listener.listener))
     → Answers r (Read reader) s (record s { listener = l })
 turned (Ok m) reader s l h law d a =
     let F : ListenerView → Playing → Playing = λ v t. record t { listener = v } in
     let e : record s { listener = l } ≡ playing_of (play_step (Read reader) (play_of s)) =
     ap (λ (v : ListenerView). F v s) d ∙ ap (λ (t : Playing). F (heard (read_turn reader s.listener.listener)) t) (sym h.parts) in
     let k : Leaves (Read reader) s (record s { listener = l }) = leaves (Read reader) s (record s { listener = l }) h law e in
-    record { sound = k.sound; state = k.state; answer = a ∙ same_moved (read_enabled reader s.listener.listener) }
+    record { sound = k.sound; state = k.state; answer = a }
 turned (Err x) reader s l h law d a = record { sound = d; state = d; answer = a }

@@ -3,7 +3,7 @@
 ghost use Rattle.std.specs.Prelude.{◌≡◌, ◌+◌, ◌<◌, ◌^◌, [], length, IfOk, OnOk, not, false};
 ghost use Rattle.nk_plan.specs.Accepted.{Accepted};
 ghost use Rattle.nk_channel.specs.Parts.{parts_enabled};
-ghost use Rattle.nk_child.specs.Moved.{moved_if};
+ghost use Rattle.nk_base.specs.Status.{moved_if};
 ghost use Rattle.nk_sink.specs.Listener.{entered_all};
 ghost use Rattle.nk_world.specs.End.{end_of};
 ghost use Rattle.nk_world.specs.Play.{play_step, play_enabled, tried, are_idle, either};

@@ -4,7 +4,7 @@ ghost use Rattle.std.specs.Prelude.{◌≡◌, ◌≤◌, ◌++◌, ◌∷◌, [
 ghost use Rattle.std.specs.List.{AllZip};
 ghost use Rattle.nk_base.specs.declared.status.Moved.TheVariants as moved;
 ghost use Rattle.nk_plan.specs.Accepted.{Accepted};
-ghost use Rattle.nk_child.specs.Moved.{moved_if};
+ghost use Rattle.nk_base.specs.Status.{moved_if};
 ghost use Rattle.nk_world.specs.End.{end_of, IsEnd};
 ghost use Rattle.nk_world.specs.Parts.{play_of, new_playing, IsSound, DrainsTo};
 ghost use Rattle.nk_world.specs.Play.{IsQuiet};
@@ -13,6 +13,7 @@ ghost use Rattle.nk_world.specs.World.{new_world, world_step, world_enabled, pla
 use crate::laws::play_law;
 use crate::playing::Playing;
 use nk_base::{Memory, Moved};
+use nk_half_laws::offsets::offsets_law;
 use nk_laws::{calm_law, ending_law, merge_law, moves_law, order_law, state_law};
 use nk_plan::{Ends, Plans, Step};
 use nk_sink::readers_law;
@@ -41,13 +42,13 @@ impl Model for World {
 }
 
 impl World {
-    /// The channels of these plans, each of which `ChannelPlan::new` accepts, before their first step.
+    /// The channels of these plans before their first step.
     pub fn new(alloc: Global, plans: Plans) -> Result<World, Memory>
-        requires few { length plans ≤ 1024 }
-        requires accepted { All Accepted plans }
+        requires { length plans ≤ 1024 }
         ensures world { IfOk result (λ w. w ≡ new_world plans) }
         ensures plans { IfOk result (λ w. plans_of w ≡ plans) }
     {
+        plans.accepted_law();
         let channels = play_all(alloc, &plans)?;
         Ok(World {
             channels,
@@ -118,6 +119,7 @@ impl World {
         state_law();
         ending_law();
         calm_law();
+        offsets_law();
         readers_law();
         let World {
             channels,

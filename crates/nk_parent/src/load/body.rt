@@ -2,7 +2,7 @@
 
 ghost use Rattle.std.specs.Prelude.{◌≡◌, ◌++◌, ◌∷◌, ◌<◌, ◌+◌, suc, [], length, slice_get, int_lt, pos, ◌-ℤ◌, true, false, not, OnOk, OnErr, IfOk, Some, None};
 ghost use Rattle.nk_base.specs.Ranges.{AreTrailers};
-ghost use Rattle.nk_base.specs.Status.{is_legal_status, ok};
+ghost use Rattle.nk_base.specs.Status.{is_legal_status, ok, moved_if};
 ghost use Rattle.nk_base.specs.declared.message.BackMsg.TheVariants as sent;
 ghost use Rattle.nk_plan.specs.declared.journal.ParentEntry.TheVariants as entry;
 ghost use Rattle.nk_plan.specs.declared.step.Phase.TheVariants as phase;
@@ -11,7 +11,7 @@ ghost use Rattle.nk_plan.specs.Enabled.{body_enabled};
 ghost use Rattle.nk_plan.specs.Plan.{hop_at, trailers_at, pieces_at};
 ghost use Rattle.nk_plan.specs.Journal.{mains_sent, backs_sent};
 ghost use Rattle.nk_plan.specs.Parent.{fetch_body, fetch_piece, offset_of};
-ghost use Rattle.nk_parent.specs.Views.{added, moved_if};
+ghost use Rattle.nk_parent.specs.Views.{added};
 ghost use Rattle.nk_parent.specs.Load.{finish_of};
 
 use super::Load;

@@ -13,8 +13,9 @@ ghost use Rattle.nk_plan.specs.Parent.{give_start, fetch_redirect, fetch_hop, fe
 ghost use Rattle.nk_plan.specs.declared.step.ParentStep.TheVariants as step;
 ghost use Rattle.nk_plan.specs.Enabled.{parent_enabled};
 ghost use Rattle.nk_plan.specs.Parent.{parent_step};
-ghost use Rattle.nk_parent.specs.Views.{added, moved_if};
+ghost use Rattle.nk_parent.specs.Views.{added};
 ghost use Rattle.nk_parent.specs.Load.{IsResponse};
+ghost use Rattle.nk_base.specs.Status.{moved_if};
 
 use super::Load;
 use super::sending::{bare_head, send_main, send_start, share_head};

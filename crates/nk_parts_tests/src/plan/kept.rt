@@ -1,4 +1,4 @@
-// Plans as they are shared and compared, entries and journals as they are kept, and the failure that is kept.
+// Plans as they are shared and compared, and entries and journals as they are kept.
 
 use super::{FAILS, Met, OK, Parts, REDIRECTS, RESET, RESUME, made, plan_of};
 use crate::base::{Numbered, first_confused};
@@ -6,9 +6,9 @@ use nk_base::{ByteList, Class, Classed, Entry, Memory, Piece, Status, Target, Up
 use nk_plan::{
     ChannelEnd, ChannelPlan, ChildEntry, ChildEvent, ChildJournal, Ending, Ends, Finish,
     ListenerKind, ParentEntry, ParentJournal, Plans, Reaction, ReaderEnd, Readers, Trace, Verdict,
-    kept_status, merged,
 };
 use std::alloc::Global;
+use std::mem::size_of;
 
 const PIPE: ListenerKind = ListenerKind::Pipe {
     segment: 4,
@@ -118,11 +118,10 @@ fn kept(alloc: Global, plan: ChannelPlan) -> Option<usize> {
     Some(plans.len())
 }
 
-/// Whether a plan is the same as its share with another window, and how many there are once the share is kept.
+/// Whether a plan is the same as a share of the plan with another window, and how many there are once the share is kept.
 fn shared(alloc: Global) -> Option<(bool, usize)> {
     let plan = ChannelPlan::numbered(alloc, 0)?;
-    let mut share = plan.share().ok()?;
-    share.window = 1;
+    let share = ChannelPlan::numbered(alloc, 1)?.share().ok()?;
     let is_same = plan.same(&share);
     Some((is_same, kept(alloc, share)?))
 }
@@ -184,32 +183,12 @@ fn entries_are_kept(rt: HostRuntime) {
     assert_eq!(rt; counts(rt.alloc()), Some(([1; 4], 1)));
 }
 
-/// The number of the first row of what is kept, a status that comes, and what is kept then, that is not so.
-fn first_wrong(rows: &[(Option<Status>, Status, Option<Status>)]) -> Option<usize> {
-    for (i, row) in rows.iter().enumerate() {
-        if merged(row.0, row.1) != row.2 {
-            return Some(i);
-        }
-    }
-    None
-}
-
 #[test]
-fn the_first_failure_is_kept(rt: HostRuntime) {
-    let aborted = Status::BINDING_ABORTED;
-    let rows = [
-        (None, OK, None),
-        (None, Status(0x7fff_ffff), None),
-        (None, RESET, Some(RESET)),
-        (Some(RESET), OK, Some(RESET)),
-        (Some(RESET), aborted, Some(RESET)),
-    ];
-    let seen = (
-        first_wrong(&rows),
-        kept_status(None),
-        kept_status(Some(aborted)),
+fn entries_of_journals_are_small(rt: HostRuntime) {
+    assert_eq!(rt;
+        [size_of::<ParentEntry>(), size_of::<ChildEntry>()],
+        [48, 48]
     );
-    assert_eq!(rt; seen, (None, OK, aborted));
 }
 
 /// The class of one event of each kind.

@@ -2,8 +2,8 @@
 // fields with no invariant, and serves to show that the rules alone decide the answers.
 
 ghost use Rattle.std.specs.Prelude.{◌≡◌, ◌+◌, ◌-◌, ◌<◌, ◌≤◌, ◌||◌, IfOk, OnOk, OnErr, IsTrue, true, slice_index, nat_lt, if◌then◌else◌};
-ghost use Rattle.nk_base.specs.Queue.{MayPost, empty_queue, target_number, target_in, is_busy, is_posted, runs_now, has_some, first_target, may_flush, offer_leaves, posted_to, raised, suspended_once, resumed_once, resume_answer, completed, complete_answer, unforced, unforced_answer, take_leaves, take_spare};
-ghost use Rattle.nk_queue.specs.Answers.{offer_answer, take_answer, taken_by};
+ghost use Rattle.nk_base.specs.Queue.{MayPost, empty_queue, target_number, target_in, is_busy, is_posted, runs_now, has_some, first_target, may_flush, offer_leaves, posted_to, raised, suspended_once, resume_posts, resumed_once, resume_answer, completed, complete_answer, unforced, unforced_answer, take_leaves, take_spare};
+ghost use Rattle.nk_queue.specs.Answers.{offer_answer, take_answer, taken_by, hands_over};
 ghost use Rattle.nk_queue.specs.Calls.{MayCall, call_answer, call_leaves, call_spare, is_reserve};
 ghost use Rattle.nk_queue.specs.Plain.{state_of, room_of};
 
@@ -92,7 +92,7 @@ impl<E: Classed> PlainQueue<E> {
 
     fn resume(&mut self) -> Option<Target>
         requires counted { 0 < self.old.count }
-        requires posts { MayPost E.class (state_of self.old) self.old.waiting.items usize.MAX }
+        requires posts { IsTrue (resume_posts (state_of self.old)) → MayPost E.class (state_of self.old) self.old.waiting.items usize.MAX }
         ensures answer { result ≡ resume_answer E.class (state_of self.old) }
         ensures state { state_of self.new ≡ resumed_once E.class (state_of self.old) }
         ensures spare { room_of self.new ≡ room_of self.old }
@@ -154,7 +154,7 @@ impl<E: Classed> PlainQueue<E> {
     }
 
     fn take(&mut self, here: Target) -> Taken<E>
-        requires { MayPost E.class (state_of self.old) self.old.waiting.items usize.MAX }
+        requires { IsTrue (hands_over (taken_by E.class (state_of self.old) here)) → MayPost E.class (state_of self.old) self.old.waiting.items usize.MAX }
         ensures answer { result ≡ take_answer (taken_by E.class (state_of self.old) here) }
         ensures state { state_of self.new ≡ take_leaves (state_of self.old) (taken_by E.class (state_of self.old) here) }
         ensures spare { room_of self.new ≡ take_spare (taken_by E.class (state_of self.old) here) (room_of self.old) }

@@ -7,4 +7,4 @@ pub loop-preserved : goal.loop-preserved
 loop-preserved c =
     shifted c.loop.printer c.word.new.self (c.args.printer.now ++ redirect_lines c.args.count) (codes "hop redirect 302 allow\n")
     (redirect_lines (c.args.count - (c.loop.counter + 1))) (redirect_lines (c.args.count - c.loop.counter)) c.loop.invariant
-    (redirect_left c.args.count c.loop.counter c.loop-test.true) c.in_ok-word.ensures
+    (redirect_left c.args.count c.loop.counter c.loop-test.true) c.in_ok-word.ensures.ok

@@ -1,7 +1,8 @@
 -- The entry stands behind the others, and what then flows is the model's.
 use Rattle.std.proofs.Common.{◌≡◌, ◌∷◌, [], ◌∙◌, sym, ap, subst, List, length, arith}
 use Rattle.nk_base.specs.declared.message.Entry.{Entry}
-use Rattle.nk_sink.specs.Listener.{if_piped, flowed, body_of}
+use Rattle.nk_sink.specs.Listener.{if_piped, flowed}
+use Rattle.nk_plan.specs.Readers.{body_of}
 use Rattle.nk_sink.specs.Sunk.{piped_in, IsFedIn}
 use Rattle.nk_sink.proofs.Showing.{fed_append, shows, more_is}
 use Rattle.nk_sink.proofs.listener.show.Goals as goal

@@ -7,13 +7,13 @@ use Rattle.nk_child.proofs.work.Work.stage_reactions.Goals as goal
 pub loop-i-preserved : goal.loop-i-preserved
 loop-i-preserved g c =
     let reactions = c.args.self.now.plan.reactions in
-    let at : slice_get c.args.self.now.plan.reactions c.loop-i.i ≡ Some c.get.result.now =
-    subst (λ (v : WorkView). slice_get v.plan.reactions c.loop-i.i ≡ Some c.get.result.now) c.self.view_is c.get.ensures in
+    let at : slice_get c.args.self.now.plan.reactions c.loop-i.i ≡ Some c.reaction_of.result =
+    subst (λ (v : WorkView). slice_get v.plan.reactions c.loop-i.i ≡ Some c.reaction_of.result) c.self.view_is c.reaction_of.ensures in
     record {
       staged = staged_next (g.U.Out.staged c.loop-i.up) (g.U.Out.staged c.stage.new.up) _ c.loop-i.standing.suspended c.loop-i.standing.failed
-          c.stage.new.self.suspended c.stage.new.self.failed c.get.result.now (drop (c.loop-i.i + 1) reactions) (drop c.loop-i.i reactions)
+          c.stage.new.self.suspended c.stage.new.self.failed c.reaction_of.result (drop (c.loop-i.i + 1) reactions) (drop c.loop-i.i reactions)
           c.in_ok-stage.ensures.staged c.in_ok-stage.ensures.suspended c.in_ok-stage.ensures.failed
-          (drop_at reactions c.loop-i.i c.get.result.now at) c.loop-i.invariant.staged;
+          (drop_at reactions c.loop-i.i c.reaction_of.result at) c.loop-i.invariant.staged;
       left = c.in_ok-stage.ensures.left;
       held = c.in_ok-stage.ensures.held ∙ c.loop-i.invariant.held;
       room = c.in_ok-stage.ensures.room ∙ c.loop-i.invariant.room;

@@ -4,7 +4,7 @@ use Rattle.nk_base.specs.declared.status.Target.TheVariants as target
 use Rattle.nk_base.specs.declared.message.MainMsg.TheVariants as main
 use Rattle.nk_plan.specs.declared.plan.ChannelPlan.{ChannelPlan}
 use Rattle.nk_plan.specs.declared.event.ChildEvent.{ChildEvent}
-use Rattle.nk_plan.specs.declared.event.ChildEvent.TheVariants.{Start, Stop}
+use Rattle.nk_plan.specs.declared.event.ChildEvent.TheVariants.{Stop}
 use Rattle.nk_plan.specs.declared.journal.ChildEntry.TheVariants as entry
 use Rattle.nk_plan.specs.Child.{ChildState, offer_event, with_entry}
 use Rattle.nk_child.proofs.Breaking.{failed_open}

@@ -1,8 +1,7 @@
 -- What the source of the body gives next is the row of the table.
 use Rattle.std.proofs.Common.{◌≡◌, ◌∙◌, ap, sym, refl, Some, None, Option, true}
-use Rattle.nk_base.specs.Status.{is_failure}
+use Rattle.nk_base.specs.Status.{is_failure, merged}
 use Rattle.nk_base.specs.declared.status.Status.{Status}
-use Rattle.nk_cancel.specs.First.{merged}
 use Rattle.nk_plan.specs.Parent.{ParentState}
 use Rattle.nk_parent.specs.Views.{LoadView}
 use Rattle.nk_parent.proofs.Bodies.{Here, here_of}

@@ -3,7 +3,9 @@ use Rattle.std.proofs.Common.{◌≡◌, ◌-◌, length, ◌∙◌, sym, ap, ar
 use Rattle.std.specs.Prelude.{slice_set}
 use Rattle.std.specs.Vec.{with_items}
 use Rattle.std.proofs.lemmas.List.{with_items_is}
-use Rattle.nk_sink.specs.Listener.{Piped, body_of, moved_if, turn_enabled}
+use Rattle.nk_sink.specs.Listener.{Piped, turn_enabled}
+use Rattle.nk_plan.specs.Readers.{body_of}
+use Rattle.nk_base.specs.Status.{moved_if}
 use Rattle.nk_sink.specs.Fed.{pipe_in, piped_with}
 use Rattle.nk_sink.proofs.Moving.{pump_is, get_is, pump_fits, turned_at, read_result, flow_segment}
 use Rattle.nk_sink.proofs.feed.Feed.read.Goals as goal

@@ -1,7 +1,7 @@
 -- A round that has moved leaves fewer; one that has not was the last.
 use Rattle.std.proofs.Common.{◌∙◌, ap, not, List}
 use Rattle.nk_plan.specs.declared.step.Step.{Step}
-use Rattle.nk_child.specs.Moved.{moved_if}
+use Rattle.nk_base.specs.Status.{moved_if}
 use Rattle.nk_world.specs.Play.{Play, tried, are_idle}
 use Rattle.nk_world.specs.Parts.{play_of}
 use Rattle.nk_world.proofs.Drains.{led_more, less_left, drains}

@@ -3,7 +3,7 @@ use Rattle.std.proofs.Common.{◌≡◌, ◌+◌, ◌++◌, ◌∷◌, [], ◌�
 use Rattle.std.proofs.lemmas.List.{take_more}
 use Rattle.nk_plan.specs.declared.step.Step.{Step}
 use Rattle.nk_plan.specs.declared.step.Step.TheVariants.{Act}
-use Rattle.nk_child.specs.Moved.{moved_if}
+use Rattle.nk_base.specs.Status.{moved_if}
 use Rattle.nk_world.specs.Play.{Play, play_step, tried, are_idle}
 use Rattle.nk_world.specs.Parts.{play_of}
 use Rattle.nk_world.proofs.Drains.{tried_more, moved_more}

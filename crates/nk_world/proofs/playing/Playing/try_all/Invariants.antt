@@ -1,6 +1,6 @@
 -- The steps so far were tried, and it has moved where one of them was enabled.
 use Rattle.std.proofs.Common.{◌≡◌, not, take}
-use Rattle.nk_child.specs.Moved.{moved_if}
+use Rattle.nk_base.specs.Status.{moved_if}
 use Rattle.nk_world.specs.Play.{tried, are_idle}
 use Rattle.nk_world.specs.Parts.{play_of, IsSound}
 use Rattle.nk_world.proofs.playing.Playing.try_all.Given as goal

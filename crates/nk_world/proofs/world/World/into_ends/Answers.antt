@@ -13,6 +13,7 @@ returns-clause-promised c =
       ends = c.ending_law.ensures.ends;
       calm = c.calm_law.ensures.calm;
       closed = c.calm_law.ensures.closed;
+      body = c.offsets_law.ensures.bounded;
       readers = c.readers_law.ensures;
     })
     c.take_ends.ensures

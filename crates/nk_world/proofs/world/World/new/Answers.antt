@@ -6,7 +6,7 @@ use Rattle.nk_world.proofs.Channels.{new_sound, new_plays, plans_new}
 use Rattle.nk_world.proofs.world.World.new.Goals as goal
 
 pub invariant_of-result : goal.invariant_of-result
-invariant_of-result c = λ f. new_sound c.args.plans c.in_ok-channels.channels.items c.requires.accepted c.in_ok-channels.ensures
+invariant_of-result c = λ f. new_sound c.args.plans c.in_ok-channels.channels.items c.accepted_law.ensures c.in_ok-channels.ensures
 
 pub returns-clause-world : goal.returns-clause-world
 returns-clause-world c =

@@ -1,7 +1,0 @@
--- Whether all fields are good is whether those are that are left.
-use Rattle.std.proofs.Common.{◌≡◌, drop}
-use Rattle.nk_base.specs.Fields.{are_good_fields}
-use Rattle.nk_base.proofs.field.Fields.are_good.Given as goal
-
-abbrev pub invariant-loop-field : goal.invariant-loop-field
-invariant-loop-field l = are_good_fields l.field-items ≡ are_good_fields (drop l.field-index l.field-items)

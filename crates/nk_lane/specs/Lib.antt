@@ -1,0 +1,4 @@
+pub mod Held
+pub mod Ends
+pub mod Spelling
+pub mod Outs

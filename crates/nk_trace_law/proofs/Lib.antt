@@ -1,0 +1,14 @@
+mod Tests
+mod Digits
+mod Spelling
+mod Lined
+mod Fronts
+mod Parts
+mod Read
+mod Told
+mod Each
+mod Traces
+mod Logs
+mod Blank
+mod Values
+mod Ranges

@@ -1,0 +1,12 @@
+pub mod Lines
+pub mod Shown
+pub mod Fits
+pub mod Spelled
+pub mod LineLaws
+pub mod PartLaws
+pub mod TextLaws
+pub mod StepLaws
+pub mod TraceLaws
+pub mod LogLaws
+pub mod DigitLaws
+pub mod RangeLaws
