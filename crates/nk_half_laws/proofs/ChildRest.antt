@@ -1,5 +1,5 @@
--- No step of a child is enabled, but a call of the page and the taking of a message, exactly where it is idle; and where an
--- idle child is not suspended, no event waits.
+-- No step of a child is enabled, but a call of the page and the taking of a message, exactly where it is idle; where an idle
+-- child is not suspended, no event waits; and what a child's queue stands at.
 use Rattle.std.proofs.Common.{ℕ, zero, suc, ◌≡◌, ◌<◌, ◌∙◌, ◌⊎◌, inl, inr, refl, ap, subst, List, [], Bool, true, false, not, ◌&&◌, ◌||◌, Option, Some, None, is_some, nat_lt, slice_index, arith}
 use Rattle.std.proofs.lemmas.Bool.{lt-ltb}
 use Rattle.nk_base.specs.declared.status.Target.{Target}
@@ -9,8 +9,8 @@ use Rattle.nk_plan.specs.declared.event.ChildEvent.{ChildEvent}
 use Rattle.nk_plan.specs.declared.step.ChildStep.TheVariants as step
 use Rattle.nk_plan.specs.Child.{ChildState, runs_on, child_after}
 use Rattle.nk_plan.specs.Enabled.{IsTried}
-use Rattle.nk_half_laws.specs.Settled.{ChildRestLaw, IsSettledChild, IsIdle}
-use Rattle.nk_half_laws.proofs.LivelyQueue.{Posted, FlushedBy, FlushOk, PostedOk, Lively, IsLively, forced_by}
+use Rattle.nk_half_laws.specs.Settled.{ChildRestLaw, ChildQueueLaw, IsSettledChild, IsIdle, forced_by, FlushedBy}
+use Rattle.nk_half_laws.proofs.LivelyQueue.{Posted, FlushOk, PostedOk, Lively, IsLively}
 use Rattle.nk_half_laws.proofs.Plans.{good_plan}
 use Rattle.nk_half_laws.proofs.Lively.{child_lively}
 use Rattle.nk_half_laws.proofs.Targets.{same_self, same_is, tried_or_past}
@@ -142,3 +142,6 @@ rest c steps a =
     let s : ChildState = child_after c steps in
     let l : IsLively s = child_lively c steps (good_plan c a) in
     ((is_idle c s l, does_nothing c s), nothing_waits s l)
+
+pub queue : ChildQueueLaw
+queue c steps a = let l : IsLively (child_after c steps) = child_lively c steps (good_plan c a) in (l.count_is, l.forced_is, l.flush_is)

@@ -28,9 +28,10 @@ use Rattle.nk_plan.specs.declared.plan.Act.TheVariants as act
 use Rattle.nk_plan.specs.declared.journal.ChildEntry.TheVariants as child
 use Rattle.nk_plan.specs.declared.plan.StartLane.TheVariants as lane
 use Rattle.nk_plan.specs.declared.step.ChildStep.TheVariants as step
+use Rattle.nk_half_laws.specs.Settled.{forced_by, FlushedBy}
 use Rattle.nk_half_laws.proofs.Targets.{same_self, same_is}
 use Rattle.nk_half_laws.proofs.Tools.{keeps_if, second_false}
-use Rattle.nk_half_laws.proofs.LivelyQueue.{same_number, FlushedBy, target_some, FlushOk, Lively, forced_by, IsLively, class_ok, appended_lively, suspended_lively, resumed_lively, prepended_lively, cleared_lively, retargeted_lively, idle_lively, unforced_lively, above, completed_lively, ended_lively, over_lively, flushing_lively}
+use Rattle.nk_half_laws.proofs.LivelyQueue.{same_number, target_some, FlushOk, Lively, IsLively, class_ok, appended_lively, suspended_lively, resumed_lively, prepended_lively, cleared_lively, retargeted_lively, idle_lively, unforced_lively, above, completed_lively, ended_lively, over_lively, flushing_lively}
 use Rattle.nk_half_laws.proofs.Plans.{GoodReactions, GoodPlan}
 
 -- a child whose queue is lively, with this forced count

@@ -13,6 +13,7 @@ use borrow.Author.Tests.{ltb-true}
 use Rattle.std.proofs.lemmas.Bool.{eqb-true, eq-eqb, lt-ltb}
 use Rattle.std.proofs.lemmas.Bool.Decides.{eqb_tells}
 use Rattle.nk_base.specs.declared.status.Target.TheVariants as target
+use Rattle.nk_half_laws.specs.Settled.{forced_by, FlushedBy}
 use Rattle.nk_half_laws.proofs.Targets.{same_is, worker_number}
 use Rattle.nk_half_laws.proofs.Tools.{by_bool, under_or_over}
 
@@ -27,10 +28,6 @@ Posted posted = (t : Target) × (0 < slice_index posted (target_number t))
 
 abbrev pub Awake : Queue ChildEvent → Type 0
 Awake q = (is_some q.flushing ≡ true) ⊎ ((0 < q.count) ⊎ ((0 < q.forced) ⊎ Posted q.posted))
-
-abbrev pub FlushedBy : Option (Target × ChildEvent) → Option Target → Type 0
-FlushedBy None f = Unit {0}
-FlushedBy (Some r) f = is_target f r.0 ≡ true
 
 pub target_some : (f : Option Target) (t : Target) → is_target f t ≡ true → is_some f ≡ true
 target_some None t e = cc
@@ -58,15 +55,6 @@ pub record Lively (q : Queue ChildEvent) (forced : ℕ) (running : Option (Targe
   pub flagged : q.suspended ≡ true → (0 < q.count) ⊎ Posted q.posted
   pub tasks : Tasks q.posted q.data_target
   pub flush_ok : FlushOk q.flushing
-
-abbrev pub forced_by : Option (Target × ChildEvent) → ℕ
-forced_by None = 0
-forced_by (Some (t, Start code st)) = 1
-forced_by (Some (t, Bytes o p st)) = 0
-forced_by (Some (t, Stop st)) = 1
-forced_by (Some (t, Redirect1 h)) = 0
-forced_by (Some (t, Redirect3 h)) = 0
-forced_by (Some (t, Cancel st)) = 0
 
 abbrev pub IsLively : ChildState → Type 0
 IsLively s = Lively s.queue (forced_by s.running) s.running s.suspends

@@ -1,11 +1,13 @@
--- Halves of which no step is enabled, and which suspend is in force. This project's own.
-use Rattle.std.specs.Prelude.{◌≡◌, ◌⊎◌, Bool, true, false, ◌||◌, List, [], ◌∷◌, slice_get, Option, Some, None, is_some, pos, ◌≤ℤ◌, ◌↔◌, ◌<◌}
+-- Halves of which no step is enabled, what a child's queue stands at, and which suspend is in force. This project's own.
+use Rattle.std.specs.Prelude.{ℕ, ◌≡◌, ◌⊎◌, Bool, true, false, ◌||◌, List, [], ◌∷◌, slice_get, Option, Some, None, is_some, pos, ◌≤ℤ◌, ◌↔◌, ◌<◌}
 use Rattle.nk_base.specs.declared.status.Target.{Target}
 use Rattle.nk_base.specs.declared.message.MainMsg.{MainMsg}
 use Rattle.nk_base.specs.declared.message.BackMsg.{BackMsg}
 use Rattle.nk_base.specs.declared.message.UpMsg.{UpMsg}
-use Rattle.nk_base.specs.Queue.{posted_to}
+use Rattle.nk_base.specs.Queue.{is_target, posted_to}
 use Rattle.nk_plan.specs.declared.plan.ChannelPlan.{ChannelPlan}
+use Rattle.nk_plan.specs.declared.event.ChildEvent.{ChildEvent}
+use Rattle.nk_plan.specs.declared.event.ChildEvent.TheVariants.{Start, Bytes, Stop, Redirect1, Redirect3, Cancel}
 use Rattle.nk_plan.specs.declared.journal.ParentEntry.{ParentEntry}
 use Rattle.nk_plan.specs.declared.step.ChildStep.{ChildStep}
 use Rattle.nk_plan.specs.declared.step.Phase.{Phase}
@@ -49,6 +51,21 @@ pub record IsIdle (s : ChildState) : Type 0 where
   pub forced : s.queue.forced ≡ 0
   pub question : (s.question ≡ None) ⊎ (s.broken ≡ true)
   pub report : (s.hold.report ≡ None) ⊎ (s.broken ≡ true)
+
+-- how often what runs forces the queue: a start and a stop, once
+abbrev pub forced_by : Option (Target × ChildEvent) → ℕ
+forced_by None = 0
+forced_by (Some (t, Start code st)) = 1
+forced_by (Some (t, Bytes o p st)) = 0
+forced_by (Some (t, Stop st)) = 1
+forced_by (Some (t, Redirect1 h)) = 0
+forced_by (Some (t, Redirect3 h)) = 0
+forced_by (Some (t, Cancel st)) = 0
+
+-- what runs is on the target of the flush
+abbrev pub FlushedBy : Option (Target × ChildEvent) → Option Target → Type 0
+FlushedBy None f = Unit {0}
+FlushedBy (Some r) f = is_target f r.0 ≡ true
 
 -- WHICH SUSPEND IS IN FORCE
 
@@ -127,6 +144,13 @@ abbrev pub ChildRestLaw : Type 0
 ChildRestLaw = (c : ChannelPlan) (steps : List ChildStep) → Accepted c →
     let s = child_after c steps in
     (IsSettledChild c s ↔ IsIdle s) × (IsIdle s → s.suspends ≡ 0 → s.queue.waiting ≡ [])
+
+-- the queue of a child is suspended as often as the child is, and forced while a start or a stop runs; and what runs is on the
+-- target of the flush
+abbrev pub ChildQueueLaw : Type 0
+ChildQueueLaw = (c : ChannelPlan) (steps : List ChildStep) → Accepted c →
+    let s = child_after c steps in
+    (s.queue.count ≡ s.suspends) × (s.queue.forced ≡ forced_by s.running) × FlushedBy s.running s.queue.flushing
 
 -- a parent's load is over exactly where its journal has the end
 abbrev pub ParentEndLaw : Type 0

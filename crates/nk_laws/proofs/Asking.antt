@@ -4,12 +4,13 @@ use Rattle.nk_base.specs.declared.message.MainMsg.{MainMsg}
 use Rattle.nk_base.specs.declared.message.BackMsg.{BackMsg}
 use Rattle.nk_base.specs.declared.message.UpMsg.{UpMsg}
 use Rattle.nk_plan.specs.declared.plan.ChannelPlan.{ChannelPlan}
-use Rattle.nk_laws.proofs.Premises.{PlanOk, IsStill, RangesOk, WantsCredit}
+use Rattle.nk_laws.proofs.Premises.{PlanOk, Rests, WantsCredit}
 use Rattle.nk_plan.specs.Parent.{ParentState, parent_step, give_start, bare_head, fetch_finish, fetch_piece, fetch_body, fetch_redirect, fetch_hop, fetch_follow, fetch_in, take_up, opened_phase, awaits_verdict}
 use Rattle.nk_plan.specs.Journal.{mains_sent, backs_sent, ups_taken, mains_taken}
 use Rattle.nk_plan.specs.Child.{ChildState}
 use Rattle.nk_plan.specs.Lanes.{Among, redirects_to, question}
 use Rattle.nk_plan.specs.Channel.{Channel, main_lane, back_lane, up_lane, up_step, main_step, back_step, channel_step, channel_after}
+use Rattle.nk_plan.specs.Enabled.{IsSettled}
 use Rattle.nk_plan.specs.declared.step.Step.{Step}
 use Rattle.nk_plan.specs.declared.step.Step.TheVariants.{Act, Verdict, Fetch, Up, Forward, Main, Back, Release, Begin, Finish, Read}
 use Rattle.nk_plan.specs.declared.plan.Hop.{Hop}
@@ -26,10 +27,8 @@ use Rattle.nk_laws.proofs.Merge.{main_events-append}
 use Rattle.nk_laws.proofs.Taking.{main_events, whole_unbroken}
 use Rattle.nk_laws.specs.Moves.{Joined}
 use Rattle.nk_laws.proofs.Joined.{Adds, fetch_step_adds, up_journal, joined}
-use Rattle.nk_laws.proofs.Lively.{child_lively, nothing_waits}
-use Rattle.nk_laws.proofs.LivelyQueue.{IsLively}
 use Rattle.nk_laws.proofs.Questions.{asked, asked-append, Asks, asks_more, IsQuizzed, child_quizzed}
-use Rattle.nk_laws.proofs.Still.{none_has, zero_or, unless, prefix_all, cut_stopped, channel_inv, channel_still}
+use Rattle.nk_laws.proofs.Still.{none_has, zero_or, unless, prefix_all, cut_stopped, channel_inv, at_rest, channel_still}
 use Rattle.nk_base.specs.Queue.{has_some}
 use Rattle.std.proofs.lemmas.Bool.{eq-eqb}
 use Rattle.nk_base.specs.declared.message.UpMsg.TheVariants as up
@@ -219,37 +218,36 @@ is_some_of None h e f = cc
 is_some_of (Some x) h e f = cc
 
 -- a still parent that asks has a child that stopped or is suspended
-pub asking_still : (c : ChannelPlan) (steps : List Step) → PlanOk c → RangesOk c → IsStill c (channel_after c steps) → (channel_after c steps).parent.phase ≡ Asking
+pub asking_still : (c : ChannelPlan) (steps : List Step) → PlanOk c → Rests c → IsSettled c (channel_after c steps) → (channel_after c steps).parent.phase ≡ Asking
     → ((channel_after c steps).child.stopped ≡ true) ⊎ (0 < (channel_after c steps).child.suspends)
 asking_still c steps v r still ask =
     let w = channel_after c steps in
     let s = w.child in
     let p = w.parent in
     let j : Joined c w = joined c steps in
-    let lively : IsLively s = subst (λ (x : ChildState). IsLively x) j.child_is (child_lively c j.child_steps r) in
     elim (zero_or s.suspends) [
       | inr x ↦ inr x
       | inl x ↦
-          let e : s.queue.waiting ≡ [] = nothing_waits c s lively (λ t. still (Begin t)) (λ t. still (Finish t)) x in
+          let e : s.queue.waiting ≡ [] = (at_rest c steps r still).1 x in
           elim (channel_inv c steps v) [
             | inr i ↦ inl (cut_stopped c _ s i e)
             | inl i ↦
                 let nb : s.broken ≡ false = whole_unbroken c _ _ s i in
-                let all : mains_taken s.journal ≡ mains_sent p.journal = prefix_all (mains_taken s.journal) (mains_sent p.journal) j.mains (none_has (main_lane w) (unless s.broken (has_some (main_lane w)) nb (still Main))) in
-                let ups : ups_taken p.journal ≡ s.sent = prefix_all (ups_taken p.journal) s.sent j.ups (none_has (up_lane w) (still Up)) in
+                let all : mains_taken s.journal ≡ mains_sent p.journal = prefix_all (mains_taken s.journal) (mains_sent p.journal) j.mains (none_has (main_lane w) (unless s.broken (has_some (main_lane w)) nb (still Main tt))) in
+                let ups : ups_taken p.journal ≡ s.sent = prefix_all (ups_taken p.journal) s.sent j.ups (none_has (up_lane w) (still Up tt)) in
                 let keeps : Keeps c p = subst (λ (y : ParentState). Keeps c y) j.parent_is (parent_keeps c j.parent_steps v) in
                 let last : asked (main_events (mains_taken s.journal)) None ≡ Some p.hop = rw all (asking_mains c p p.phase ask keeps) in
                 let z : IsQuizzed s = subst (λ (y : ChildState). IsQuizzed y) j.child_is (child_quizzed c j.child_steps) in
                 elim (z.answered nb p.hop last) [
                   | inl y ↦
                       let q : s.question ≡ Some p.hop = rw e at y in
-                      absurd (is_some_of s.question p.hop q (unless s.broken (is_some s.question) nb (still Verdict)))
+                      absurd (is_some_of s.question p.hop q (unless s.broken (is_some s.question) nb (still Verdict tt)))
                   | inr y ↦ absurd (unanswered c steps v ask y.0 (rw ups y.1))
                 ]
           ]
     ]
 
-pub still : (c : ChannelPlan) (steps : List Step) → PlanOk c → RangesOk c → c.closed ≡ false → IsStill c (channel_after c steps)
+pub still : (c : ChannelPlan) (steps : List Step) → PlanOk c → Rests c → c.closed ≡ false → IsSettled c (channel_after c steps)
     → ((channel_after c steps).child.stopped ≡ true) ⊎ ((0 < (channel_after c steps).child.suspends) ⊎ WantsCredit c (channel_after c steps).parent)
 still c steps v r n q = elim (channel_still c steps v r n q) [
   | inl x ↦ inl x

@@ -31,9 +31,7 @@ use Rattle.nk_plan.specs.declared.step.ChildStep.TheVariants as step
 use Rattle.nk_plan.specs.Event.{class_of}
 use Rattle.nk_base.specs.Status.{merged}
 use Rattle.nk_plan.specs.Child.{ChildState, run_bytes, run_event, offer_event, offer_all, with_entry, call_suspend, call_resume, call_cancel, refusal, call_retarget, is_empty, call_break, perform_call, perform_control, step_act, verdict_status, step_verdict, note_main, main_events_of, step_main, back_hop, back_events_of, back_events, is_among, hold_back, step_back, of_hop, released_hold, step_release, flush_with, runs_on, step_begin, react, react_all, bytes_failure, prepend_cancel, fail_data, finish_event, step_finish, child_step, child_after}
-use Rattle.nk_laws.proofs.Tools.{keeps_if}
-use Rattle.nk_laws.proofs.Lively.{none_posted}
-use Rattle.nk_laws.proofs.LivelyQueue.{under_or_over}
+use Rattle.nk_laws.proofs.Tools.{keeps_if, le_or_more, none_posted}
 
 -- Numbers that are posted
 
@@ -47,9 +45,9 @@ set_at : (p : List ℕ) (i v k n : ℕ) → v ≤ n → slice_index p k ≤ n �
 set_at p i v k n a b = elim (eqb_tells k i) [
   | inl x ↦
       let e : k ≡ i = eqb-true k i x.0 in
-      elim (under_or_over i (length p)) [
-        | inl l ↦ let g : slice_index (set p i v) i ≡ v = get_or-set_same p i v 0 l in rw (e, g) a
-        | inr l ↦
+      elim (le_or_more (length p) i) [
+        | inr l ↦ let g : slice_index (set p i v) i ≡ v = get_or-set_same p i v 0 l in rw (e, g) a
+        | inl l ↦
             let h : length (set p i v) ≤ i = rw (length-set p i v) l in
             let g : slice_index (set p i v) i ≡ 0 = get_or_past (set p i v) i 0 h in rw (e, g) (omega arith)
       ]

@@ -4,7 +4,7 @@ use Rattle.nk_base.specs.declared.message.MainMsg.{MainMsg}
 use Rattle.nk_base.specs.declared.message.BackMsg.{BackMsg}
 use Rattle.nk_plan.specs.declared.plan.ChannelPlan.{ChannelPlan}
 use Rattle.nk_plan.specs.declared.step.ChildStep.{ChildStep}
-use Rattle.nk_laws.proofs.Premises.{PlanOk, RangesOk, EndsByFailure}
+use Rattle.nk_laws.proofs.Premises.{PlanOk, Rests, EndsByFailure}
 use Rattle.nk_plan.specs.Parent.{ParentState}
 use Rattle.nk_plan.specs.Journal.{mains_sent, backs_sent, ups_taken, mains_taken, backs_taken}
 use Rattle.nk_laws.proofs.Sent.{SentLaw}
@@ -20,8 +20,7 @@ use Rattle.nk_laws.proofs.Merge.{run_inv, start_inv, fed, prefix_of_take, within
 use Rattle.nk_laws.proofs.Taking.{Within, main_events, Whole, Cut, Inv, hold_is, backs_is, broken_is}
 use Rattle.nk_laws.specs.Moves.{Joined}
 use Rattle.nk_laws.proofs.Joined.{joined, rest_after, main_says, back_says}
-use Rattle.nk_laws.proofs.Lively.{child_lively}
-use Rattle.nk_laws.proofs.LivelyQueue.{IsLively}
+use Rattle.nk_laws.proofs.Flushes.{Flushes}
 use Rattle.nk_base.specs.declared.status.Status.{Status}
 use Rattle.nk_plan.specs.declared.event.ChildEvent.TheVariants.{Start as StartEvent, Bytes as BytesEvent, Stop as StopEvent, Redirect1 as Redirect1Event, Redirect3 as Redirect3Event, Cancel as CancelEvent}
 use Rattle.nk_plan.specs.Calm.{IsCalm}
@@ -106,7 +105,7 @@ back_at E T G (x ∷ xs) m r h = back_at E T G xs m r h.1
 right_back_in : (E : Status) (T : Status → Type 0) (G : Type 0) (xs : List BackMsg) (m : BackMsg) (bd : List BackMsg) → IsPrefix (xs ++ m ∷ []) bd → RightBacks E T G bd → RightBack E T G m
 right_back_in E T G xs m bd (r, e) h = let h1 : RightBacks E T G ((xs ++ m ∷ []) ++ r) = subst (λ y. RightBacks E T G y) (sym e) h in back_at E T G xs m r h1
 
-plain_step : (c : ChannelPlan) (E : Status) (T : Status → Type 0) (G : Type 0) (md : List MainMsg) (bd : List BackMsg) (x : ChildStep) (s : ChildState) → OkOrFails E → IsCalm c → EndsByFailure c.reactions → IsLively s → Whole c md bd s → NoLane x → (total : ℕ) → Calmly c E T G s [] total → Calmly c E T G (child_step c x s) [] total
+plain_step : (c : ChannelPlan) (E : Status) (T : Status → Type 0) (G : Type 0) (md : List MainMsg) (bd : List BackMsg) (x : ChildStep) (s : ChildState) → OkOrFails E → IsCalm c → EndsByFailure c.reactions → Flushes s → Whole c md bd s → NoLane x → (total : ℕ) → Calmly c E T G s [] total → Calmly c E T G (child_step c x s) [] total
 plain_step c E T G md bd child.Act s ef cp ev l i n total k = acted_calm c E T G s total cp.0 k
 plain_step c E T G md bd child.Verdict s ef cp ev l i n total k = keeps_if (λ (y : ChildState). Calmly c E T G y [] total) s.broken s (step_verdict c s.question s) (λ r. k) (λ r. verdict_calm c E T G s.question s total k)
 plain_step c E T G md bd (child.Main m) s ef cp ev l i n total k = absurd n
@@ -116,13 +115,13 @@ plain_step c E T G md bd child.Release s ef cp ev l i n total k =
 plain_step c E T G md bd (child.Begin t) s ef cp ev l i n total k = begun_calm c E T G t s total ef l (λ y. (quiet_after c md bd s i y).0) k
 plain_step c E T G md bd (child.Finish t) s ef cp ev l i n total k = finished_calm c E T G t s.running s total cp.1 ev refl k
 
-calm_plain : (c : ChannelPlan) (E : Status) (T : Status → Type 0) (G : Type 0) (md : List MainMsg) (bd : List BackMsg) (x : ChildStep) (s : ChildState) → OkOrFails E → IsCalm c → EndsByFailure c.reactions → IsLively s → Whole c md bd s → NoLane x → CalmRun c E T G s → CalmRun c E T G (child_step c x s)
+calm_plain : (c : ChannelPlan) (E : Status) (T : Status → Type 0) (G : Type 0) (md : List MainMsg) (bd : List BackMsg) (x : ChildStep) (s : ChildState) → OkOrFails E → IsCalm c → EndsByFailure c.reactions → Flushes s → Whole c md bd s → NoLane x → CalmRun c E T G s → CalmRun c E T G (child_step c x s)
 calm_plain c E T G md bd x s ef cp ev l i n k =
     let g : Grows s.journal s.sent (child_step c x s) = plain_grows c x s n in
     let e : backs_taken (child_step c x s).journal ≡ backs_taken s.journal = rw (g.journal_is, backs-append s.journal g.entries, g.no_back, append_nil (backs_taken s.journal)) refl in
     rw e (plain_step c E T G md bd x s ef cp ev l i n (backs_bytes (backs_taken s.journal)) k)
 
-calm_main : (c : ChannelPlan) (E : Status) (T : Status → Type 0) (G : Type 0) (md : List MainMsg) (m : MainMsg) (s : ChildState) → OkOrFails E → RightMains E T G md → IsLively s → IsPrefix (mains_taken (child_step c (child.Main m) s).journal) md → CalmRun c E T G s → CalmRun c E T G (child_step c (child.Main m) s)
+calm_main : (c : ChannelPlan) (E : Status) (T : Status → Type 0) (G : Type 0) (md : List MainMsg) (m : MainMsg) (s : ChildState) → OkOrFails E → RightMains E T G md → Flushes s → IsPrefix (mains_taken (child_step c (child.Main m) s).journal) md → CalmRun c E T G s → CalmRun c E T G (child_step c (child.Main m) s)
 calm_main c E T G md m s ef rm l w k =
     let s' = step_main c m (with_entry (entry.TookMain m) s) in
     keeps_if (λ (x : ChildState). IsPrefix (mains_taken x.journal) md → CalmRun c E T G x) s.broken s s' (λ r y. k)
@@ -138,7 +137,7 @@ next_is xs ub bd m e (r, h) z =
     let b : back_bytes m + backs_bytes r ≡ 0 = rw a at z in
     omega arith
 
-calm_back : (c : ChannelPlan) (E : Status) (T : Status → Type 0) (G : Type 0) (md : List MainMsg) (bd : List BackMsg) (m : BackMsg) (s : ChildState) → OkOrFails E → RightBacks E T G bd → IsLively s → Whole c md bd s → IsPrefix (backs_taken (child_step c (child.Back m) s).journal) bd → CalmRun c E T G s → CalmRun c E T G (child_step c (child.Back m) s)
+calm_back : (c : ChannelPlan) (E : Status) (T : Status → Type 0) (G : Type 0) (md : List MainMsg) (bd : List BackMsg) (m : BackMsg) (s : ChildState) → OkOrFails E → RightBacks E T G bd → Flushes s → Whole c md bd s → IsPrefix (backs_taken (child_step c (child.Back m) s).journal) bd → CalmRun c E T G s → CalmRun c E T G (child_step c (child.Back m) s)
 calm_back c E T G md bd m s ef rb l i w k =
     let s' = step_back c m (with_entry (entry.TookBack m) s) in
     keeps_if (λ (x : ChildState). IsPrefix (backs_taken x.journal) bd → CalmRun c E T G x) s.broken s s' (λ r y. k)
@@ -151,7 +150,7 @@ calm_back c E T G md bd m s ef rb l i w k =
     rw (says.1, e) (back_calm c E T G m (with_entry (entry.TookBack m) s) (backs_bytes (backs_taken s.journal)) ef good l
     (λ q. next_is (backs_taken s.journal) i.ub bd m (ap (λ t. t ++ i.ub) tb ∙ i.backs) y1 (quiet_after c md bd s i q).2) k)) w
 
-calm_step : (c : ChannelPlan) (E : Status) (T : Status → Type 0) (G : Type 0) (md : List MainMsg) (bd : List BackMsg) (x : ChildStep) (s : ChildState) → OkOrFails E → IsCalm c → EndsByFailure c.reactions → RightMains E T G md → RightBacks E T G bd → IsLively s → Whole c md bd s → Within md bd (child_step c x s).journal → CalmRun c E T G s → CalmRun c E T G (child_step c x s)
+calm_step : (c : ChannelPlan) (E : Status) (T : Status → Type 0) (G : Type 0) (md : List MainMsg) (bd : List BackMsg) (x : ChildStep) (s : ChildState) → OkOrFails E → IsCalm c → EndsByFailure c.reactions → RightMains E T G md → RightBacks E T G bd → Flushes s → Whole c md bd s → Within md bd (child_step c x s).journal → CalmRun c E T G s → CalmRun c E T G (child_step c x s)
 calm_step c E T G md bd child.Act s ef cp ev rm rb l i w k = calm_plain c E T G md bd child.Act s ef cp ev l i tt k
 calm_step c E T G md bd child.Verdict s ef cp ev rm rb l i w k = calm_plain c E T G md bd child.Verdict s ef cp ev l i tt k
 calm_step c E T G md bd (child.Main m) s ef cp ev rm rb l i w k = calm_main c E T G md m s ef rm l w.0 k
@@ -183,7 +182,7 @@ start_calm_run c E T G =
       course = Quiet refl refl refl tt refl tt (let z : backs_bytes (new_hold c.start).kept ≡ 0 = ap backs_bytes e in let y : 0 + (0 + (backs_bytes (new_hold c.start).kept + 0)) ≡ 0 = omega arith in y);
     }
 
-pub calm_steps : (c : ChannelPlan) (E : Status) (T : Status → Type 0) (G : Type 0) (md : List MainMsg) (bd : List BackMsg) (steps : List ChildStep) → PlanOk c → RangesOk c → OkOrFails E → IsCalm c → EndsByFailure c.reactions → RightMains E T G md → RightBacks E T G bd → Inv c md bd (new_child c)
+pub calm_steps : (c : ChannelPlan) (E : Status) (T : Status → Type 0) (G : Type 0) (md : List MainMsg) (bd : List BackMsg) (steps : List ChildStep) → PlanOk c → Rests c → OkOrFails E → IsCalm c → EndsByFailure c.reactions → RightMains E T G md → RightBacks E T G bd → Inv c md bd (new_child c)
     → Within md bd (child_after c steps).journal → CalmRun c E T G (child_after c steps)
 calm_steps c E T G md bd [] v r ef cp ev rm rb i w = start_calm_run c E T G
 calm_steps c E T G md bd (x ∷ xs) v r ef cp ev rm rb i w =
@@ -192,11 +191,11 @@ calm_steps c E T G md bd (x ∷ xs) v r ef cp ev rm rb i w =
     let w0 : Within md bd s.journal = within_before md bd s.journal g.0.0 (rw g.0.1 at w) in
     let k : CalmRun c E T G s = calm_steps c E T G md bd xs v r ef cp ev rm rb i w0 in
     elim (run_inv c md bd xs v i w0) [
-      | inl j ↦ calm_step c E T G md bd x s ef cp ev rm rb (child_lively c xs r) j w k
+      | inl j ↦ calm_step c E T G md bd x s ef cp ev rm rb (r.queue c xs r.accepted).2 j w k
       | inr j ↦ absurd (not_cut c _ s k.unbroken j)
     ]
 
-pub channel_calm : (c : ChannelPlan) (E : Status) (T : Status → Type 0) (G : Type 0) (steps : List Step) → PlanOk c → RangesOk c → OkOrFails E → IsCalm c → EndsByFailure c.reactions
+pub channel_calm : (c : ChannelPlan) (E : Status) (T : Status → Type 0) (G : Type 0) (steps : List Step) → PlanOk c → Rests c → OkOrFails E → IsCalm c → EndsByFailure c.reactions
     → RightMains E T G (mains_sent (channel_after c steps).parent.journal) → RightBacks E T G (backs_sent (channel_after c steps).parent.journal) → CalmRun c E T G (channel_after c steps).child
 channel_calm c E T G steps v r ef cp ev rm rb =
     let w = channel_after c steps in

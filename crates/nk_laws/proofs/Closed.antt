@@ -11,7 +11,7 @@ use Rattle.nk_plan.specs.declared.step.Step.TheVariants.{Act, Verdict, Fetch, Up
 use Rattle.nk_plan.specs.Child.{ChildState, new_hold, new_child, step_release}
 use Rattle.nk_plan.specs.Channel.{Channel, channel_step, new_channel, channel_after}
 use Rattle.nk_plan.specs.Run.{trace_of, Run}
-use Rattle.nk_laws.proofs.Lively.{none_posted}
+use Rattle.nk_laws.proofs.Tools.{none_posted}
 use Rattle.nk_laws.proofs.Orders.{run_is_order}
 
 not_opened : (b : Bool) (s t : ChildState) → b ≡ true → (if b then s else t) ≡ s

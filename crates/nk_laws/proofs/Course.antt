@@ -25,8 +25,7 @@ use Rattle.std.proofs.lemmas.Bool.Decides.{eqb_tells}
 use Rattle.nk_plan.specs.Calm.{NeverSuspends, start_reaction}
 use Rattle.nk_laws.proofs.ChildLaw.{none_waits, idle_empty}
 use Rattle.nk_laws.proofs.Order.{NotCancel, NoCancel, CancelsFirst, first_then_event, first_if_none}
-use Rattle.nk_laws.proofs.Lively.{offered_lively, no_flush, nothing_runs, runs_elsewhere}
-use Rattle.nk_laws.proofs.LivelyQueue.{IsLively}
+use Rattle.nk_laws.proofs.Flushes.{Flushes, offered_flushes, runs_alone, runs_elsewhere}
 use Rattle.nk_laws.proofs.Tally.{has_stop, stop_then, or_false, or_true}
 use Rattle.nk_base.specs.declared.status.Target.TheVariants as target
 use Rattle.nk_base.specs.declared.message.MainMsg.TheVariants as main
@@ -212,15 +211,15 @@ empty_front [] e q rest h = cc
 empty_front (x ∷ w) e q rest h = cc
 
 offered_calm : (c : ChannelPlan) (E : Status) (T : Status → Type 0) (G : Type 0) (here : Target) (e : ChildEvent) (s : ChildState) (es : List ChildEvent) (total : ℕ)
-    → OkOrFails E → NotCancel e → IsLively s → (s.stopped ≡ true → is_some s.queue.flushing ≡ false → event_bytes e ≡ 0) → Calmly c E T G s (e ∷ es) total → Calmly c E T G (offer_event c here e s) es total
+    → OkOrFails E → NotCancel e → Flushes s → (s.stopped ≡ true → is_some s.queue.flushing ≡ false → event_bytes e ≡ 0) → Calmly c E T G s (e ∷ es) total → Calmly c E T G (offer_event c here e s) es total
 offered_calm c E T G here e s es total ef nc l nb k =
     let s1 : ChildState = record s { queue = running_now s.queue here } in
     let same : Bool = same_target (target_in s.queue.data_target (class_of e)) here in
     keeps_if (λ (x : ChildState). Calmly c E T G x es total) (runs_now class_of s.queue e here) (run_event c here e s1) (record s { queue = appended class_of s.queue e })
     (λ r.
-    let none : is_some s.queue.flushing ≡ false = no_flush (nat_lt 0 s.queue.forced) s.queue.suspended (is_some s.queue.flushing) (has_some s.queue.waiting) same r in
+    let alone : (is_some s.queue.flushing ≡ false) × (s.running ≡ None) = runs_alone here e s l r in
     let empty : s.queue.waiting ≡ [] = none_waits s.queue.waiting (idle_empty (nat_lt 0 s.queue.forced) s.queue.suspended (is_some s.queue.flushing) (has_some s.queue.waiting) same r) in
-    run_calm c E T G here e s1 es total ef (nothing_runs s.running s.queue.flushing l.flush_is none) nc (empty_front s.queue.waiting empty) (λ x. nb x none)
+    run_calm c E T G here e s1 es total ef alone.1 nc (empty_front s.queue.waiting empty) (λ x. nb x alone.0)
     k)
     (λ r. appended_calm c E T G e s es total nc k)
 
@@ -246,10 +245,10 @@ still_none c here e s es nb =
     (λ r a b. let h : event_bytes e + events_bytes es ≡ 0 = nb a b in omega arith)
 
 offered_all_calm : (c : ChannelPlan) (E : Status) (T : Status → Type 0) (G : Type 0) (here : Target) (es : List ChildEvent) (s : ChildState) (total : ℕ)
-    → OkOrFails E → NoCancel es → IsLively s → (s.stopped ≡ true → is_some s.queue.flushing ≡ false → events_bytes es ≡ 0) → Calmly c E T G s es total → Calmly c E T G (offer_all c here es s) [] total
+    → OkOrFails E → NoCancel es → Flushes s → (s.stopped ≡ true → is_some s.queue.flushing ≡ false → events_bytes es ≡ 0) → Calmly c E T G s es total → Calmly c E T G (offer_all c here es s) [] total
 offered_all_calm c E T G here [] s total ef nc l nb k = k
 offered_all_calm c E T G here (e ∷ es) s total ef nc l nb k =
-    offered_all_calm c E T G here es (offer_event c here e s) total ef nc.1 (offered_lively c here e s l)
+    offered_all_calm c E T G here es (offer_event c here e s) total ef nc.1 (offered_flushes c here e s l)
     (still_none c here e s es nb)
     (offered_calm c E T G here e s es total ef nc.0 l (λ x y. let h : event_bytes e + events_bytes es ≡ 0 = nb x y in omega arith) k)
 
@@ -348,7 +347,7 @@ taken_calm c E T G t (x ∷ es) s total ef idle nb e k =
     (λ q. k))
 
 pub begun_calm : (c : ChannelPlan) (E : Status) (T : Status → Type 0) (G : Type 0) (t : Target) (s : ChildState) (total : ℕ)
-    → OkOrFails E → IsLively s → (s.stopped ≡ true → events_bytes s.queue.waiting ≡ 0) → Calmly c E T G s [] total → Calmly c E T G (step_begin c t s) [] total
+    → OkOrFails E → Flushes s → (s.stopped ≡ true → events_bytes s.queue.waiting ≡ 0) → Calmly c E T G s [] total → Calmly c E T G (step_begin c t s) [] total
 begun_calm c E T G t s total ef l nb k =
     let P : ChildState → Type 0 = λ x. Calmly c E T G x [] total in
     let posted : Bool = nat_lt 0 (slice_index s.queue.posted (target_number t)) in
@@ -356,7 +355,7 @@ begun_calm c E T G t s total ef l nb k =
     let taking : ChildState = flush_with c t (taken class_of s.queue t s.queue.waiting) s in
     keeps_if P (runs_on s.running t) s (if is_target s.queue.flushing t then taking else (if posted then done else s)) (λ r. k)
     (λ r. keeps_if P (is_target s.queue.flushing t) taking (if posted then done else s)
-    (λ q. taken_calm c E T G t s.queue.waiting s total ef (runs_elsewhere s.running s.queue.flushing t r q l.flush_is) nb refl k)
+    (λ q. taken_calm c E T G t s.queue.waiting s total ef (runs_elsewhere s.running s.queue.flushing t r q l) nb refl k)
     (λ q. keeps_if P posted done s (λ p. k) (λ p. k)))
 
 -- The end of a callback
@@ -635,7 +634,7 @@ come_calm c E T G es s total n r z k = record {
   course = course_sum c E T G s.trace s.kept s.stopped s.running s.queue.waiting s.data_begun s.sent _ _ (come_sum s.data_begun (events_bytes s.queue.waiting) (backs_bytes s.hold.kept) (events_bytes es) n total z) k.course;
 }
 
-pub main_calm : (c : ChannelPlan) (E : Status) (T : Status → Type 0) (G : Type 0) (m : MainMsg) (s : ChildState) (total : ℕ) → OkOrFails E → RightMain E T G m → IsLively s → Calmly c E T G s [] total → Calmly c E T G (step_main c m s) [] (total + 0)
+pub main_calm : (c : ChannelPlan) (E : Status) (T : Status → Type 0) (G : Type 0) (m : MainMsg) (s : ChildState) (total : ℕ) → OkOrFails E → RightMain E T G m → Flushes s → Calmly c E T G s [] total → Calmly c E T G (step_main c m s) [] (total + 0)
 main_calm c E T G m s total ef r l k =
     let a = main_right E T G m r in
     reported_calm c E T G c.start m (offer_all c target.Main (main_events_of m) s) (total + 0)
@@ -652,7 +651,7 @@ held_right E T G (x ∷ xs) m a b = (a.0, held_right E T G xs m a.1 b)
 held_sum : (n b h h' k total : ℕ) → h' ≡ h + (k + 0) → n + (b + (h + 0)) ≡ total → n + (b + (h' + 0)) ≡ total + k
 held_sum n b h h' k total z s = omega arith
 
-passed_calm : (c : ChannelPlan) (E : Status) (T : Status → Type 0) (G : Type 0) (m : BackMsg) (s : ChildState) (total : ℕ) → OkOrFails E → RightBack E T G m → IsLively s → (s.stopped ≡ true → back_bytes m ≡ 0) → Calmly c E T G s [] total → Calmly c E T G (hold_back c m s) [] (total + back_bytes m)
+passed_calm : (c : ChannelPlan) (E : Status) (T : Status → Type 0) (G : Type 0) (m : BackMsg) (s : ChildState) (total : ℕ) → OkOrFails E → RightBack E T G m → Flushes s → (s.stopped ≡ true → back_bytes m ≡ 0) → Calmly c E T G s [] total → Calmly c E T G (hold_back c m s) [] (total + back_bytes m)
 passed_calm c E T G m s total ef r l nb k =
     let a = back_right E T G m r in
     keeps_if (λ (y : ChildState). Calmly c E T G y [] (total + back_bytes m)) (is_among s.hold.released (back_hop m)) (offer_all c target.Back (back_events_of m) s) _
@@ -670,7 +669,7 @@ passed_calm c E T G m s total ef r l nb k =
       course = course_sum c E T G s.trace s.kept s.stopped s.running s.queue.waiting s.data_begun s.sent _ _ (held_sum s.data_begun (events_bytes s.queue.waiting) (backs_bytes s.hold.kept) (backs_bytes (s.hold.kept ++ m ∷ [])) (back_bytes m) total (held_size s.hold.kept m)) k.course;
     })
 
-pub back_calm : (c : ChannelPlan) (E : Status) (T : Status → Type 0) (G : Type 0) (m : BackMsg) (s : ChildState) (total : ℕ) → OkOrFails E → RightBack E T G m → IsLively s → (s.stopped ≡ true → back_bytes m ≡ 0) → Calmly c E T G s [] total → Calmly c E T G (step_back c m s) [] (total + back_bytes m)
+pub back_calm : (c : ChannelPlan) (E : Status) (T : Status → Type 0) (G : Type 0) (m : BackMsg) (s : ChildState) (total : ℕ) → OkOrFails E → RightBack E T G m → Flushes s → (s.stopped ≡ true → back_bytes m ≡ 0) → Calmly c E T G s [] total → Calmly c E T G (step_back c m s) [] (total + back_bytes m)
 back_calm c E T G (back.StartSent h) s total ef r l nb k = rw (add-zero total) k
 back_calm c E T G (back.Start h st head) s total ef r l nb k = passed_calm c E T G (back.Start h st head) s total ef r l nb k
 back_calm c E T G (back.Bytes h st o p) s total ef r l nb k = passed_calm c E T G (back.Bytes h st o p) s total ef r l nb k
@@ -709,7 +708,7 @@ split_all E T G i (m ∷ ks) r = split_one E T G (i == back_hop m) m (of_hop i k
 release_sum : (n b h h' e total : ℕ) → e + h' ≡ h → n + (b + (h + 0)) ≡ total → n + (b + (h' + e)) ≡ total
 release_sum n b h h' e total z s = omega arith
 
-pub release_calm : (c : ChannelPlan) (E : Status) (T : Status → Type 0) (G : Type 0) (x : Option ℕ) (s : ChildState) (total : ℕ) → OkOrFails E → IsLively s → (s.stopped ≡ true → backs_bytes s.hold.kept ≡ 0) → Calmly c E T G s [] total → Calmly c E T G (step_release c x s) [] total
+pub release_calm : (c : ChannelPlan) (E : Status) (T : Status → Type 0) (G : Type 0) (x : Option ℕ) (s : ChildState) (total : ℕ) → OkOrFails E → Flushes s → (s.stopped ≡ true → backs_bytes s.hold.kept ≡ 0) → Calmly c E T G s [] total → Calmly c E T G (step_release c x s) [] total
 release_calm c E T G None s total ef l nb k = k
 release_calm c E T G (Some i) s total ef l nb k =
     let es : List ChildEvent = back_events (of_hop i s.hold.kept) in

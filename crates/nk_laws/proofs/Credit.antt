@@ -12,8 +12,8 @@ use Rattle.nk_plan.specs.declared.plan.Act.{Act}
 use Rattle.nk_plan.specs.declared.plan.Control.{Control}
 use Rattle.nk_plan.specs.declared.journal.ChildEntry.{ChildEntry}
 use Rattle.nk_base.specs.Status.{is_failure, merged}
-use Rattle.nk_laws.proofs.Premises.{RangesOk}
-use Rattle.nk_base.specs.Queue.{Taken, Event, Over, Ended, same_target, is_target, target_in, runs_now, has_some, running_now, appended, completed, cleared, taken}
+use Rattle.nk_laws.proofs.Premises.{Rests}
+use Rattle.nk_base.specs.Queue.{Taken, Event, Over, Ended, same_target, is_target, target_in, runs_now, running_now, appended, completed, cleared, taken}
 use Rattle.nk_plan.specs.Journal.{mains_taken, backs_taken}
 use Rattle.nk_plan.specs.declared.plan.StartLane.{StartLane}
 use Rattle.nk_plan.specs.declared.step.ChildStep.{ChildStep}
@@ -23,8 +23,7 @@ use Rattle.nk_plan.specs.declared.event.ChildEvent.TheVariants.{Start, Bytes, St
 use Rattle.nk_plan.specs.Event.{class_of}
 use Rattle.nk_laws.proofs.Tools.{keeps_if, append_nil, among_more, among_last, by_bool}
 use Rattle.nk_plan.specs.Lanes.{Among}
-use Rattle.nk_laws.proofs.Lively.{child_lively, offered_lively, no_flush, nothing_runs, runs_elsewhere}
-use Rattle.nk_laws.proofs.LivelyQueue.{IsLively, forced_by, cleared_lively}
+use Rattle.nk_laws.proofs.Flushes.{Flushes, offered_flushes, runs_alone, runs_elsewhere}
 use Rattle.nk_laws.proofs.Grows.{Grows, NoLane, plain_grows, main_grows, back_grows, noted_grows, step_grows, Extends, mains-append, backs-append}
 use Rattle.nk_laws.proofs.Joined.{main_says, back_says}
 use Rattle.nk_base.specs.declared.status.Target.TheVariants as target
@@ -275,19 +274,16 @@ appended_owes bad broken r e es w held kept u n o =
       excuse = elim o.excuse [ inl k ↦ inl (k.0, k.1, good_events-append w (e ∷ []) k.2 (k.4.0, tt), k.3, k.4.1) | inr x ↦ inr x ];
     }
 
-offered_owes : (bad : Bool) (c : ChannelPlan) (here : Target) (e : ChildEvent) (s : ChildState) (es : List ChildEvent) (n : ℕ) → IsLively s → Owed bad n (e ∷ es) s → Owed bad n es (offer_event c here e s)
+offered_owes : (bad : Bool) (c : ChannelPlan) (here : Target) (e : ChildEvent) (s : ChildState) (es : List ChildEvent) (n : ℕ) → Flushes s → Owed bad n (e ∷ es) s → Owed bad n es (offer_event c here e s)
 offered_owes bad c here e s es n l o =
     let s1 : ChildState = record s { queue = running_now s.queue here } in
     keeps_if (Owed bad n es) (runs_now class_of s.queue e here) (run_event c here e s1) (record s { queue = appended class_of s.queue e })
-    (λ r.
-    let none : is_some s.queue.flushing ≡ false =
-    no_flush (nat_lt 0 s.queue.forced) s.queue.suspended (is_some s.queue.flushing) (has_some s.queue.waiting) (same_target (target_in s.queue.data_target (class_of e)) here) r in
-    run_owes bad c here e s1 es n (nothing_runs s.running s.queue.flushing l.flush_is none) o)
+    (λ r. run_owes bad c here e s1 es n (runs_alone here e s l r).1 o)
     (λ r. appended_owes bad s.broken s.running e es s.queue.waiting s.hold.kept s.kept s.sent n o)
 
-offered_all_owes : (bad : Bool) (c : ChannelPlan) (here : Target) (es : List ChildEvent) (s : ChildState) (n : ℕ) → IsLively s → Owed bad n es s → Owed bad n [] (offer_all c here es s)
+offered_all_owes : (bad : Bool) (c : ChannelPlan) (here : Target) (es : List ChildEvent) (s : ChildState) (n : ℕ) → Flushes s → Owed bad n es s → Owed bad n [] (offer_all c here es s)
 offered_all_owes bad c here [] s n l o = o
-offered_all_owes bad c here (e ∷ es) s n l o = offered_all_owes bad c here es (offer_event c here e s) n (offered_lively c here e s l) (offered_owes bad c here e s es n l o)
+offered_all_owes bad c here (e ∷ es) s n l o = offered_all_owes bad c here es (offer_event c here e s) n (offered_flushes c here e s l) (offered_owes bad c here e s es n l o)
 
 suspend_says : (n : ℕ) → read_of (if n == 0 then up.Suspend ∷ [] else []) ≡ 0
 suspend_says n = keeps_if (λ v. read_of v ≡ 0) (n == 0) (up.Suspend ∷ []) [] (λ r. refl) (λ r. refl)
@@ -318,7 +314,7 @@ broken_size : (b : Bool) (st : Status) → events_size (if b then Start 0 st ∷
 broken_size true st = refl
 broken_size false st = refl
 
-break_owes : (bad : Bool) (c : ChannelPlan) (st : Status) (s : ChildState) (n : ℕ) → IsLively s → Owed bad n [] s → Owed bad n [] (perform_call c (act.Break st) s)
+break_owes : (bad : Bool) (c : ChannelPlan) (st : Status) (s : ChildState) (n : ℕ) → Flushes s → Owed bad n [] s → Owed bad n [] (perform_call c (act.Break st) s)
 break_owes bad c st s n l o =
     let s1 : ChildState = record s { broken = true; kept = merged s.kept st; queue = cleared s.queue; journal = s.journal ++ child.Break st ∷ [] } in
     let es : List ChildEvent = if is_empty s.trace then Start 0 st ∷ Stop st ∷ [] else Stop st ∷ [] in
@@ -330,9 +326,9 @@ break_owes bad c st s n l o =
       excuse = inr (inl refl);
     } in
     keeps_if (Owed bad n []) (s.stopped || s.broken) (with_entry child.NoEffect s) (call_break c st s) (λ r. o)
-    (λ r. offered_all_owes bad c target.Main es s1 n (cleared_lively (forced_by s.running) s.queue s.running s.suspends l) o1)
+    (λ r. offered_all_owes bad c target.Main es s1 n l o1)
 
-performed_owes : (bad : Bool) (c : ChannelPlan) (x : Act) (s : ChildState) (n : ℕ) → IsLively s → Owed bad n [] s → Owed bad n [] (perform_call c x s)
+performed_owes : (bad : Bool) (c : ChannelPlan) (x : Act) (s : ChildState) (n : ℕ) → Flushes s → Owed bad n [] s → Owed bad n [] (perform_call c x s)
 performed_owes bad c act.Suspend s n l o = suspend_owes bad c s n o
 performed_owes bad c act.Resume s n l o = resume_owes bad c s n o
 performed_owes bad c (act.Cancel st) s n l o = call_owes bad c st s n o
@@ -347,13 +343,13 @@ reacted_owes bad c (reaction.StartCancel st ∷ rs) s n o = reacted_owes bad c r
 reacted_owes bad c (reaction.StartFail st ∷ rs) s n o = reacted_owes bad c rs (perform_call c (act.Cancel st) s) n (call_owes bad c st s n o)
 reacted_owes bad c (reaction.BytesFail i st ∷ rs) s n o = reacted_owes bad c rs s n o
 
-control_owes : (bad : Bool) (c : ChannelPlan) (x : Option Control) (s : ChildState) (n : ℕ) → IsLively s → Owed bad n [] s → Owed bad n [] (perform_control c x s)
+control_owes : (bad : Bool) (c : ChannelPlan) (x : Option Control) (s : ChildState) (n : ℕ) → Flushes s → Owed bad n [] s → Owed bad n [] (perform_control c x s)
 control_owes bad c None s n l o = o
 control_owes bad c (Some control) s n l o =
     let s1 : ChildState = record s { next = suc s.next } in
     keeps_if (Owed bad n []) (nat_le control.after s.finished) (perform_call c control.act s1) s (λ r. performed_owes bad c control.act s1 n l o) (λ r. o)
 
-acted_owes : (bad : Bool) (c : ChannelPlan) (s : ChildState) (n : ℕ) → IsLively s → Owed bad n [] s → Owed bad n [] (step_act c s)
+acted_owes : (bad : Bool) (c : ChannelPlan) (s : ChildState) (n : ℕ) → Flushes s → Owed bad n [] s → Owed bad n [] (step_act c s)
 acted_owes bad c s n l o =
     keeps_if (Owed bad n []) c.closed s _ (λ r. o)
     (λ r. keeps_if (Owed bad n []) s.opened (perform_control c (slice_get c.controls s.next) s) _ (λ q. control_owes bad c (slice_get c.controls s.next) s n l o)
@@ -387,11 +383,11 @@ taken_owes bad c t (x ∷ es) s n e idle o =
     (λ q. run_owes bad c t x s1 [] n idle (front_owes bad s.broken s.running x es s.hold.kept s.kept s.sent n o0))
     (λ q. o))
 
-begun_owes : (bad : Bool) (c : ChannelPlan) (t : Target) (s : ChildState) (n : ℕ) → IsLively s → Owed bad n [] s → Owed bad n [] (step_begin c t s)
+begun_owes : (bad : Bool) (c : ChannelPlan) (t : Target) (s : ChildState) (n : ℕ) → Flushes s → Owed bad n [] s → Owed bad n [] (step_begin c t s)
 begun_owes bad c t s n l o =
     keeps_if (Owed bad n []) (runs_on s.running t) s _ (λ r. o)
     (λ r. keeps_if (Owed bad n []) (is_target s.queue.flushing t) (flush_with c t (taken class_of s.queue t s.queue.waiting) s) _
-    (λ q. taken_owes bad c t s.queue.waiting s n refl (runs_elsewhere s.running s.queue.flushing t r q l.flush_is) o)
+    (λ q. taken_owes bad c t s.queue.waiting s n refl (runs_elsewhere s.running s.queue.flushing t r q l) o)
     (λ q. keeps_if (Owed bad n []) _ (record s { queue = completed s.queue t; journal = s.journal ++ child.Complete t ∷ [] }) s (λ p. o) (λ p. o)))
 
 prepended_owes : (bad broken : Bool) (r : Option (Target × ChildEvent)) (w : List ChildEvent) (held : List BackMsg) (kept : Option Status) (u : List UpMsg) (st : Status) (n : ℕ)
@@ -472,20 +468,20 @@ held_owes bad broken r w held m kept u n g o =
       excuse = elim o.excuse [ inl x ↦ elim g [ inl b ↦ inr (inr (inl b)) | inr y ↦ inl (x.0, x.1, x.2, good_backs-append held (m ∷ []) x.3 (y, tt), x.4) ] | inr x ↦ inr x ];
     }
 
-main_owes : (bad : Bool) (c : ChannelPlan) (m : MainMsg) (s : ChildState) (n : ℕ) → (bad ≡ true) ⊎ GoodMain m → IsLively s → Owed bad n [] s → Owed bad (n + 0) [] (step_main c m s)
+main_owes : (bad : Bool) (c : ChannelPlan) (m : MainMsg) (s : ChildState) (n : ℕ) → (bad ≡ true) ⊎ GoodMain m → Flushes s → Owed bad n [] s → Owed bad (n + 0) [] (step_main c m s)
 main_owes bad c m s n g l o =
     reported_owes bad c.start m (offer_all c target.Main (main_events_of m) s) (n + 0)
     (offered_all_owes bad c target.Main (main_events_of m) s (n + 0) l
     (come_owes bad s.broken s.running s.queue.waiting (main_events_of m) s.hold.kept s.kept s.sent n 0 (main_event_size m) (elim g [ inl b ↦ inl b | inr x ↦ inr (main_event_good m x) ]) o))
 
-passed_owes : (bad : Bool) (c : ChannelPlan) (m : BackMsg) (s : ChildState) (n : ℕ) → (bad ≡ true) ⊎ GoodBack m → IsLively s → Owed bad n [] s → Owed bad (n + back_size m) [] (hold_back c m s)
+passed_owes : (bad : Bool) (c : ChannelPlan) (m : BackMsg) (s : ChildState) (n : ℕ) → (bad ≡ true) ⊎ GoodBack m → Flushes s → Owed bad n [] s → Owed bad (n + back_size m) [] (hold_back c m s)
 passed_owes bad c m s n g l o =
     keeps_if (Owed bad (n + back_size m) []) (is_among s.hold.released (back_hop m)) (offer_all c target.Back (back_events_of m) s) _
     (λ r. offered_all_owes bad c target.Back (back_events_of m) s (n + back_size m) l
     (come_owes bad s.broken s.running s.queue.waiting (back_events_of m) s.hold.kept s.kept s.sent n (back_size m) (back_event_size m) (elim g [ inl b ↦ inl b | inr x ↦ inr (back_event_good m x) ]) o))
     (λ r. held_owes bad s.broken s.running s.queue.waiting s.hold.kept m s.kept s.sent n g o)
 
-back_owes : (bad : Bool) (c : ChannelPlan) (m : BackMsg) (s : ChildState) (n : ℕ) → (bad ≡ true) ⊎ GoodBack m → IsLively s → Owed bad n [] s → Owed bad (n + back_size m) [] (step_back c m s)
+back_owes : (bad : Bool) (c : ChannelPlan) (m : BackMsg) (s : ChildState) (n : ℕ) → (bad ≡ true) ⊎ GoodBack m → Flushes s → Owed bad n [] s → Owed bad (n + back_size m) [] (step_back c m s)
 back_owes bad c (back.StartSent h) s n g l o = rw (add-zero n) o
 back_owes bad c (back.Start h st head) s n g l o = passed_owes bad c (back.Start h st head) s n g l o
 back_owes bad c (back.Bytes h st at p) s n g l o = passed_owes bad c (back.Bytes h st at p) s n g l o
@@ -513,7 +509,7 @@ hold_good : (i : ℕ) (ks : List BackMsg) → GoodBacks ks → GoodEvents (back_
 hold_good i [] g = (tt, tt)
 hold_good i (m ∷ ks) g = split_good (i == back_hop m) m (of_hop i ks) (not_of_hop i ks) g.0 (hold_good i ks g.1)
 
-release_owes : (bad : Bool) (c : ChannelPlan) (x : Option ℕ) (s : ChildState) (n : ℕ) → IsLively s → Owed bad n [] s → Owed bad n [] (step_release c x s)
+release_owes : (bad : Bool) (c : ChannelPlan) (x : Option ℕ) (s : ChildState) (n : ℕ) → Flushes s → Owed bad n [] s → Owed bad n [] (step_release c x s)
 release_owes bad c None s n l o = o
 release_owes bad c (Some i) s n l o =
     let s1 : ChildState = record s { hold = released_hold i s.hold; journal = s.journal ++ child.Release (length (of_hop i s.hold.kept)) ∷ [] } in
@@ -527,7 +523,7 @@ release_owes bad c (Some i) s n l o =
     } in
     offered_all_owes bad c target.Back (back_events (of_hop i s.hold.kept)) s1 n l o1
 
-plain_owes : (bad : Bool) (c : ChannelPlan) (x : ChildStep) (s : ChildState) (n : ℕ) → NoLane x → IsLively s → Owed bad n [] s → Owed bad n [] (child_step c x s)
+plain_owes : (bad : Bool) (c : ChannelPlan) (x : ChildStep) (s : ChildState) (n : ℕ) → NoLane x → Flushes s → Owed bad n [] s → Owed bad n [] (child_step c x s)
 plain_owes bad c step.Act s n p l o = acted_owes bad c s n l o
 plain_owes bad c step.Verdict s n p l o = keeps_if (Owed bad n []) s.broken s (step_verdict c s.question s) (λ r. o) (λ r. verdict_owes bad c s.question s n o)
 plain_owes bad c (step.Main m) s n p l o = absurd p
@@ -548,7 +544,7 @@ took_before bad j k i e g = (
   λ b. good_backs_left (backs_taken j) (backs_taken k) (rw (e, backs-append j k) at (g.1 b)),
 )
 
-owes_plain : (bad : Bool) (c : ChannelPlan) (x : ChildStep) (s : ChildState) → NoLane x → IsLively s → OwesAll bad s → OwesAll bad (child_step c x s)
+owes_plain : (bad : Bool) (c : ChannelPlan) (x : ChildStep) (s : ChildState) → NoLane x → Flushes s → OwesAll bad s → OwesAll bad (child_step c x s)
 owes_plain bad c x s p l o =
     let g : Grows s.journal s.sent (child_step c x s) = plain_grows c x s p in
     let e : backs_taken (child_step c x s).journal ≡ backs_taken s.journal = rw (g.journal_is, backs-append s.journal g.entries, g.no_back, append_nil (backs_taken s.journal)) refl in
@@ -558,7 +554,7 @@ or_good : (bad : Bool) (P : Type 0) → (bad ≡ false → P) → (bad ≡ true)
 or_good true P f = inl refl
 or_good false P f = inr (f refl)
 
-owes_main : (bad : Bool) (c : ChannelPlan) (m : MainMsg) (s : ChildState) → IsLively s → OwesAll bad s → TookGood bad (child_step c (step.Main m) s).journal → OwesAll bad (child_step c (step.Main m) s)
+owes_main : (bad : Bool) (c : ChannelPlan) (m : MainMsg) (s : ChildState) → Flushes s → OwesAll bad s → TookGood bad (child_step c (step.Main m) s).journal → OwesAll bad (child_step c (step.Main m) s)
 owes_main bad c m s l o =
     let s' = step_main c m (with_entry (child.TookMain m) s) in
     keeps_if (λ (x : ChildState). TookGood bad x.journal → OwesAll bad x) s.broken s s' (λ r g. o)
@@ -567,7 +563,7 @@ owes_main bad c m s l o =
     let good : (bad ≡ true) ⊎ GoodMain m = or_good bad (GoodMain m) (λ b. let x : GoodMains (m ∷ []) = good_mains_right (mains_taken s.journal) (m ∷ []) (rw says.0 at (g.0 b)) in x.0) in
     rw (says.1, ← add-zero (backs_size (backs_taken s.journal))) (main_owes bad c m (with_entry (child.TookMain m) s) (backs_size (backs_taken s.journal)) good l o))
 
-owes_back : (bad : Bool) (c : ChannelPlan) (m : BackMsg) (s : ChildState) → IsLively s → OwesAll bad s → TookGood bad (child_step c (step.Back m) s).journal → OwesAll bad (child_step c (step.Back m) s)
+owes_back : (bad : Bool) (c : ChannelPlan) (m : BackMsg) (s : ChildState) → Flushes s → OwesAll bad s → TookGood bad (child_step c (step.Back m) s).journal → OwesAll bad (child_step c (step.Back m) s)
 owes_back bad c m s l o =
     let s' = step_back c m (with_entry (child.TookBack m) s) in
     keeps_if (λ (x : ChildState). TookGood bad x.journal → OwesAll bad x) s.broken s s' (λ r g. o)
@@ -577,7 +573,7 @@ owes_back bad c m s l o =
     let e : backs_size (backs_taken s.journal ++ m ∷ []) ≡ backs_size (backs_taken s.journal) + back_size m = backs_size-append (backs_taken s.journal) (m ∷ []) ∙ ap (λ t. backs_size (backs_taken s.journal) + t) (add-zero (back_size m)) in
     rw (says.1, e) (back_owes bad c m (with_entry (child.TookBack m) s) (backs_size (backs_taken s.journal)) good l o))
 
-step_owes : (bad : Bool) (c : ChannelPlan) (x : ChildStep) (s : ChildState) → IsLively s → OwesAll bad s → TookGood bad (child_step c x s).journal → OwesAll bad (child_step c x s)
+step_owes : (bad : Bool) (c : ChannelPlan) (x : ChildStep) (s : ChildState) → Flushes s → OwesAll bad s → TookGood bad (child_step c x s).journal → OwesAll bad (child_step c x s)
 step_owes bad c step.Act s l o g = owes_plain bad c step.Act s tt l o
 step_owes bad c step.Verdict s l o g = owes_plain bad c step.Verdict s tt l o
 step_owes bad c (step.Main m) s l o g = owes_main bad c m s l o g
@@ -590,7 +586,7 @@ first_kept : (l : StartLane) → (new_hold l).kept ≡ []
 first_kept lane.Main = refl
 first_kept lane.Back = refl
 
-pub child_owes : (bad : Bool) (c : ChannelPlan) (steps : List ChildStep) → RangesOk c → TookGood bad (child_after c steps).journal → OwesAll bad (child_after c steps)
+pub child_owes : (bad : Bool) (c : ChannelPlan) (steps : List ChildStep) → Rests c → TookGood bad (child_after c steps).journal → OwesAll bad (child_after c steps)
 child_owes bad c [] v g =
     let e : (new_hold c.start).kept ≡ [] = first_kept c.start in
     let z : backs_size (new_hold c.start).kept ≡ 0 = ap backs_size e in
@@ -601,7 +597,7 @@ child_owes bad c [] v g =
     }
 child_owes bad c (x ∷ xs) v g =
     let s = child_after c xs in
-    let l : IsLively s = child_lively c xs v in
+    let l : Flushes s = (v.queue c xs v.accepted).2 in
     let e : Extends s (child_step c x s) = step_grows c x s in
     let o : OwesAll bad s = child_owes bad c xs v (took_before bad s.journal e.0.0 (child_step c x s).journal e.0.1 g) in
     step_owes bad c x s l o g

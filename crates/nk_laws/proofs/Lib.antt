@@ -13,12 +13,11 @@ pub mod Credit
 pub mod CutChild
 pub mod CutParent
 pub mod Entries
+pub mod Flushes
 pub mod Grows
 pub mod Heard
 pub mod Joined
 pub mod Led
-pub mod Lively
-pub mod LivelyQueue
 pub mod LogRows
 pub mod Merge
 pub mod More
@@ -40,7 +39,6 @@ pub mod StartHop
 pub mod Still
 pub mod Taking
 pub mod Tally
-pub mod Targets
 pub mod Tells
 pub mod Told
 pub mod Tools

@@ -10,14 +10,13 @@ use Rattle.nk_plan.specs.declared.plan.Verdict.{Verdict}
 use Rattle.nk_plan.specs.declared.plan.Control.{Control}
 use Rattle.nk_plan.specs.declared.plan.Finish.{Finish}
 use Rattle.nk_plan.specs.declared.plan.Reaction.{Reaction}
-use Rattle.nk_plan.specs.declared.step.Step.{Step}
 use Rattle.nk_plan.specs.declared.step.Phase.TheVariants.{Body}
 use Rattle.nk_base.specs.declared.field.Field.{Field}
 use Rattle.nk_plan.specs.Accepted.{Accepted, IsGoodHop, IsGoodVerdict, IsGoodFinish, IsGoodAct, IsGoodControl, IsGoodReaction}
 use Rattle.nk_plan.specs.Plan.{hop_at, pieces_at}
 use Rattle.nk_plan.specs.Parent.{ParentState}
-use Rattle.nk_plan.specs.Channel.{Channel}
-use Rattle.nk_plan.specs.Enabled.{body_enabled, channel_enabled}
+use Rattle.nk_plan.specs.Enabled.{body_enabled}
+use Rattle.nk_half_laws.specs.Settled.{ChildRestLaw, ChildQueueLaw}
 use Rattle.nk_plan.specs.declared.plan.Hop.TheVariants as hop
 use Rattle.nk_plan.specs.declared.plan.Verdict.TheVariants as verdict
 use Rattle.nk_plan.specs.declared.plan.Act.TheVariants as act
@@ -46,21 +45,11 @@ ActOk (Some control) = (s : Status) → control.act ≡ act.Break s → is_failu
 abbrev pub PlanOk : ChannelPlan → Type 0
 PlanOk c = ((f : ℕ) → HopOk (hop_at c f)) × ((i : ℕ) → ActOk (slice_get c.controls i))
 
-abbrev pub WorkerOk : Option Control → Type 0
-WorkerOk None = Unit {0}
-WorkerOk (Some control) = (n : ℕ) → control.act ≡ act.Retarget n → (1 ≤ n) × (n ≤ 16)
-
-abbrev pub ReactionsOk : List Reaction → Type 0
-ReactionsOk [] = Unit {0}
-ReactionsOk (reaction.StartRetarget n ∷ rs) = (1 ≤ n) × (n ≤ 16) × ReactionsOk rs
-ReactionsOk (reaction.StartSuspend ∷ rs) = ReactionsOk rs
-ReactionsOk (reaction.StartCancel st ∷ rs) = ReactionsOk rs
-ReactionsOk (reaction.StartFail st ∷ rs) = ReactionsOk rs
-ReactionsOk (reaction.BytesFail n st ∷ rs) = ReactionsOk rs
-
--- workers are numbered 1 to 16, and the window is not empty
-abbrev pub RangesOk : ChannelPlan → Type 0
-RangesOk c = ReactionsOk c.reactions × ((i : ℕ) → WorkerOk (slice_get c.controls i)) × (1 ≤ c.window)
+-- the plan is accepted; and what is known of every child by itself
+pub record Rests (c : ChannelPlan) : Type 0 where
+  pub accepted : Accepted c
+  pub rest : ChildRestLaw
+  pub queue : ChildQueueLaw
 
 -- reactions end a load by failures alone, and name data callbacks from 1 on
 abbrev pub EndsByFailure : List Reaction → Type 0
@@ -70,10 +59,6 @@ EndsByFailure (reaction.StartRetarget w ∷ rs) = EndsByFailure rs
 EndsByFailure (reaction.StartCancel s ∷ rs) = (is_failure s ≡ true) × EndsByFailure rs
 EndsByFailure (reaction.StartFail s ∷ rs) = (is_failure s ≡ true) × EndsByFailure rs
 EndsByFailure (reaction.BytesFail n s ∷ rs) = (is_failure s ≡ true) × (1 ≤ n) × EndsByFailure rs
-
--- no step of the channel is enabled, on whatever target
-abbrev pub IsStill : ChannelPlan → Channel → Type 0
-IsStill c w = (x : Step) → channel_enabled c x w ≡ false
 
 -- a parent that waits for credit
 abbrev pub WantsCredit : ChannelPlan → ParentState → Type 0
@@ -106,18 +91,6 @@ act_ok : (closed : Bool) (o : Option Control) → ((k : Control) → o ≡ Some 
 act_ok closed None f = tt
 act_ok closed (Some k) f = λ s e. subst IsGoodAct e (f k refl).act
 
-worker_ok : (closed : Bool) (o : Option Control) → ((k : Control) → o ≡ Some k → IsGoodControl closed k) → WorkerOk o
-worker_ok closed None f = tt
-worker_ok closed (Some k) f = λ n e. subst IsGoodAct e (f k refl).act
-
-reactions_ok : (rs : List Reaction) → Each IsGoodReaction rs → ReactionsOk rs
-reactions_ok [] f = tt
-reactions_ok (reaction.StartRetarget n ∷ rs) f = let g = f 0 (reaction.StartRetarget n) refl in (g.0, g.1, reactions_ok rs (λ i x e. f (suc i) x e))
-reactions_ok (reaction.StartSuspend ∷ rs) f = reactions_ok rs (λ i x e. f (suc i) x e)
-reactions_ok (reaction.StartCancel st ∷ rs) f = reactions_ok rs (λ i x e. f (suc i) x e)
-reactions_ok (reaction.StartFail st ∷ rs) f = reactions_ok rs (λ i x e. f (suc i) x e)
-reactions_ok (reaction.BytesFail n st ∷ rs) f = reactions_ok rs (λ i x e. f (suc i) x e)
-
 failures_end : (rs : List Reaction) → Each IsGoodReaction rs → EndsByFailure rs
 failures_end [] f = tt
 failures_end (reaction.StartRetarget n ∷ rs) f = failures_end rs (λ i x e. f (suc i) x e)
@@ -130,13 +103,6 @@ pub plan_ok : (c : ChannelPlan) → Accepted c → PlanOk c
 plan_ok c a = (
   (λ f. hop_ok (hop_at c f) (λ h e. each_of IsGoodHop c.hops a.hops f h e)),
   (λ i. act_ok c.closed (slice_get c.controls i) (λ k e. each_of (IsGoodControl c.closed) c.controls a.controls i k e)),
-)
-
-pub ranges_ok : (c : ChannelPlan) → Accepted c → RangesOk c
-ranges_ok c a = (
-  reactions_ok c.reactions (each_of IsGoodReaction c.reactions a.reactions),
-  (λ i. worker_ok c.closed (slice_get c.controls i) (λ k e. each_of (IsGoodControl c.closed) c.controls a.controls i k e)),
-  a.window.0,
 )
 
 pub ends_by_failure : (c : ChannelPlan) → Accepted c → EndsByFailure c.reactions

@@ -18,15 +18,14 @@ use Rattle.nk_plan.specs.Child.{ChildState, child_after}
 use Rattle.nk_plan.specs.Channel.{Channel, channel_after}
 use Rattle.nk_plan.specs.Run.{state_of, trace_of, Down}
 use Rattle.nk_plan.specs.Ending.{ending_by, ending_of, ends_in_stop, waits_to_stop}
+use Rattle.nk_half_laws.specs.Settled.{ChildRestLaw, ChildQueueLaw, forced_by}
 use Rattle.nk_laws.specs.Laws.{LanesLaw, MergeLaw, RunLaw, HopLaw, FailureLaw, CountsLaw, BoundsLaw, SendsLaw, StateLaw, OrderRunsLaw, RunOrderLaw, EndingToldLaw, EndingLaw, BrokenLaw, CalmLaw, ClosedLaw}
-use Rattle.nk_laws.proofs.Premises.{plan_ok, ranges_ok, ends_by_failure}
+use Rattle.nk_laws.proofs.Premises.{plan_ok, ends_by_failure}
 use Rattle.nk_laws.proofs.Sent.{lane_law_of}
 use Rattle.nk_laws.proofs.ParentLaw.{lane_law}
 use Rattle.nk_laws.proofs.Merge.{TakesDown, merge}
 use Rattle.nk_laws.proofs.StartHop.{start_hop}
 use Rattle.nk_laws.proofs.Tells.{child_tells}
-use Rattle.nk_laws.proofs.LivelyQueue.{forced_by}
-use Rattle.nk_laws.proofs.Lively.{child_lively}
 use Rattle.nk_laws.proofs.Bounds.{child_bounded}
 use Rattle.nk_laws.proofs.Tally.{child_tally, journal_ending}
 use Rattle.nk_laws.proofs.Replay.{child_replayed, determined}
@@ -83,11 +82,11 @@ forced_once_at_most (Some (t, Redirect1 h)) = omega arith
 forced_once_at_most (Some (t, Redirect3 h)) = omega arith
 forced_once_at_most (Some (t, Cancel st)) = omega arith
 
-pub bounds : BoundsLaw
-bounds c steps a =
-    let l = child_lively c steps (ranges_ok c a) in
-    let f : (child_after c steps).queue.forced ≡ forced_by (child_after c steps).running = l.forced_is in
-    (l.count_is, (let k = forced_once_at_most (child_after c steps).running in omega arith), λ t. child_bounded c steps (target_number t))
+pub bounds : ChildQueueLaw → BoundsLaw
+bounds queue c steps a =
+    let l = queue c steps a in
+    let f : (child_after c steps).queue.forced ≡ forced_by (child_after c steps).running = l.1 in
+    (l.0, (let k = forced_once_at_most (child_after c steps).running in omega arith), λ t. child_bounded c steps (target_number t))
 
 pub sends : SendsLaw
 sends c steps = sym (child_tells c steps).sends_are
@@ -118,12 +117,12 @@ unopened : (b : Bool) (x : Ending) → b ≡ true → (if b then ending.Unopened
 unopened true x e = refl
 unopened false x e = cc
 
-pub endings : EndingLaw
-endings c steps a q g =
+pub endings : ChildRestLaw → ChildQueueLaw → EndingLaw
+endings rest queue c steps a q g =
     let g1 : journal_ending c (channel_after c steps).child ≡ ending.Going = sym (told c steps) ∙ g in
     by_bool c.closed
     (λ e. let x : journal_ending c (channel_after c steps).child ≡ ending.Unopened = unopened c.closed _ e in let y : ending.Unopened ≡ ending.Going = sym x ∙ g1 in absurd (cc))
-    (λ e. (ending_told c steps (plan_ok c a)).3 (ranges_ok c a) e q g1)
+    (λ e. (ending_told c steps (plan_ok c a)).3 (record { accepted = a; rest = rest; queue = queue }) e q g1)
 
 pub broken : BrokenLaw
 broken c p j n a d b =
@@ -134,8 +133,8 @@ broken c p j n a d b =
 
 -- Calm plans
 
-pub calm : CalmLaw
-calm c p j n a i r =
+pub calm : ChildRestLaw → ChildQueueLaw → CalmLaw
+calm rest queue c p j n a i r =
     let o = run_is_order c p j n r in
     let w : Channel = channel_after c o.0 in
     let k : Joined c w = joined c o.0 in
@@ -148,7 +147,7 @@ calm c p j n a i r =
       λ s. (let y : ending.Unopened ≡ ending.Suspended = sym x ∙ (sym same ∙ s) in absurd (cc)),
     ))
     (λ h.
-    let l = calm_law_holds c o.0 (plan_ok c a) (ranges_ok c a) i (ends_by_failure c a) h in (
+    let l = calm_law_holds c o.0 (plan_ok c a) (record { accepted = a; rest = rest; queue = queue }) i (ends_by_failure c a) h in (
       λ s. ap (λ (y : ChildState). y.trace) e ∙ l.0 (sym same ∙ s),
       λ s. l.1 (sym same ∙ s),
     ))

@@ -1,107 +1,46 @@
 -- Where no step that a drain tries is enabled, a channel is not going on.
-use Rattle.std.proofs.Common.{ℕ, ◌≡◌, ◌+◌, ◌<◌, ◌≤◌, refl, sym, ◌∙◌, ap, subst, List, [], ◌++◌, length, Bool, true, false, not, ◌&&◌, ◌||◌, Option, Some, None, is_some, ◌⊎◌, inl, inr, if◌then◌else◌, nat_lt, nat_le, take, arith, slice_get, slice_index, ℤ, pos, int_lt, ◌+ℤ◌, ◌≤ℤ◌}
+use Rattle.std.proofs.Common.{ℕ, ◌≡◌, ◌+◌, ◌<◌, ◌≤◌, refl, sym, ◌∙◌, ap, subst, List, [], ◌++◌, length, Bool, true, false, not, ◌&&◌, ◌||◌, Option, Some, None, is_some, ◌⊎◌, inl, inr, if◌then◌else◌, nat_lt, nat_le, take, arith, slice_get, ℤ, pos, int_lt, ◌+ℤ◌, ◌≤ℤ◌}
 use Rattle.std.proofs.lemmas.Int.{ints}
 use Rattle.std.proofs.lemmas.List.{take_all}
 use Rattle.std.proofs.lemmas.Bool.{lt-ltb}
 use borrow.Author.Tests.{ltb-true}
-use Rattle.nk_base.specs.declared.status.Target.{Target}
 use Rattle.nk_base.specs.declared.message.MainMsg.{MainMsg}
 use Rattle.nk_base.specs.declared.message.BackMsg.{BackMsg}
 use Rattle.nk_plan.specs.declared.plan.ChannelPlan.{ChannelPlan}
 use Rattle.nk_plan.specs.declared.plan.Control.{Control}
 use Rattle.nk_laws.proofs.Tally.{journal_ending}
-use Rattle.nk_laws.proofs.Targets.{same_self, same_is, tried_or_past}
-use Rattle.nk_laws.proofs.Premises.{PlanOk, IsStill, RangesOk, WantsCredit}
+use Rattle.nk_laws.proofs.Premises.{PlanOk, Rests, WantsCredit}
 use Rattle.nk_plan.specs.Plan.{pieces_at}
 use Rattle.nk_plan.specs.Trace.{SeqTrace}
 use Rattle.nk_plan.specs.Journal.{first, final, cut, mains_taken, backs_taken, mains_sent, backs_sent, ups_taken, is_suspend, is_resume, is_finish, count_of, has_open}
-use Rattle.nk_base.specs.Queue.{has_some, is_target, same_target, target_number}
+use Rattle.nk_base.specs.Queue.{has_some}
 use Rattle.nk_plan.specs.Parent.{ParentState}
 use Rattle.nk_plan.specs.declared.step.Phase.TheVariants.{Body, Done}
-use Rattle.nk_plan.specs.Child.{ChildState, is_due, runs_on, Hold}
-use Rattle.nk_plan.specs.declared.event.ChildEvent.{ChildEvent}
+use Rattle.nk_plan.specs.Child.{ChildState, is_due, Hold}
 use Rattle.nk_plan.specs.Channel.{Channel, main_lane, back_lane, up_lane, channel_after}
 use Rattle.nk_plan.specs.declared.step.Step.{Step}
-use Rattle.nk_plan.specs.declared.step.Step.TheVariants.{Act, Verdict, Fetch, Up, Forward, Main, Back, Release, Begin, Finish, Read}
-use Rattle.nk_plan.specs.Enabled.{child_enabled, IsTried, IsSettled}
+use Rattle.nk_plan.specs.declared.step.Step.TheVariants.{Act, Up, Forward, Main, Back, Release}
+use Rattle.nk_plan.specs.Enabled.{IsSettled}
 use Rattle.nk_plan.specs.declared.ends.Ending.{Ending}
 use Rattle.nk_plan.specs.declared.ends.Ending.TheVariants.{Stopped, Suspended, Unopened, Going}
 use Rattle.nk_plan.specs.Ending.{state_ending, ends_in_stop, comes_at}
 use Rattle.nk_laws.proofs.ParentLaw.{Keeps, InBody, parent_keeps}
 use Rattle.nk_laws.proofs.Taking.{Whole, hold_is, mains_is, whole_unbroken}
+use Rattle.nk_half_laws.specs.Settled.{IsIdle}
 use Rattle.nk_laws.specs.Moves.{Joined}
 use Rattle.nk_laws.proofs.Joined.{joined, rest_after, run_trace}
-use Rattle.nk_laws.proofs.Lively.{child_lively, nothing_waits}
-use Rattle.nk_laws.proofs.LivelyQueue.{IsLively, FlushedBy, FlushOk, PostedOk}
 use Rattle.nk_laws.proofs.Heard.{Hears, parent_hears}
-use Rattle.nk_laws.proofs.Still.{none_has, zero_or, unless, prefix_all, cut_stopped, channel_inv, due_none, reports_none, all_moved}
+use Rattle.nk_laws.proofs.Still.{none_has, zero_or, unless, prefix_all, cut_stopped, channel_inv, at_rest, due_none, reports_none, all_moved}
 use Rattle.nk_laws.proofs.Asking.{still}
 use Rattle.nk_laws.proofs.Tally.{Tallied, child_tally, stop_last}
 use Rattle.nk_laws.proofs.Credit.{read_of, backs_size, events_size, run_size, GoodMains, GoodBacks, OwesAll, TookGood, child_owes}
 use Rattle.nk_laws.proofs.Paid.{covered, body_good, keeps_body, body_waits}
-use Rattle.nk_plan.specs.declared.step.ChildStep.TheVariants as child
 use Rattle.nk_laws.proofs.Tools.{by_bool}
-
--- What a drain tries is all that may be enabled
-
--- where a target is out of range nothing runs on it, nothing flushes on it, and nothing is posted to it
-no_flush_there : (f : Option Target) (t : Target) → 17 ≤ target_number t → FlushOk f → is_target f t ≡ false
-no_flush_there None t l ok = refl
-no_flush_there (Some g) t l ok =
-    let ok1 : target_number g < 17 = ok in
-    by_bool (is_target (Some g) t) (λ e. let x : target_number g ≡ target_number t = ap target_number (same_is g t e) in absurd (omega arith)) (λ e. e)
-
-no_run_there : (r : Option (Target × ChildEvent)) (f : Option Target) (t : Target) → 17 ≤ target_number t → FlushOk f → FlushedBy r f → runs_on r t ≡ false
-no_run_there None f t l ok h = refl
-no_run_there (Some x) None t l ok h = cc
-no_run_there (Some x) (Some g) t l ok h =
-    let ok1 : target_number g < 17 = ok in
-    let a : target_number g ≡ target_number x.0 = ap target_number (same_is g x.0 h) in
-    by_bool (runs_on (Some x) t) (λ e. let y : target_number x.0 ≡ target_number t = ap target_number (same_is x.0 t e) in absurd (omega arith)) (λ e. e)
-
-none_posted_there : (posted : List ℕ) (t : Target) → 17 ≤ target_number t → PostedOk posted → nat_lt 0 (slice_index posted (target_number t)) ≡ false
-none_posted_there posted t l ok =
-    by_bool (nat_lt 0 (slice_index posted (target_number t))) (λ e. let x : target_number t < 17 = ok (target_number t) (ltb-true 0 (slice_index posted (target_number t)) e) in absurd (omega arith)) (λ e. e)
-
-none_of : (a b d : Bool) → b ≡ false → d ≡ false → (not a && (b || d)) ≡ false
-none_of true b d e f = refl
-none_of false b d e f = rw (e, f) refl
-
-begin_settled : (c : ChannelPlan) (s : ChildState) → IsLively s → ((t : Target) → IsTried t → child_enabled c (child.Begin t) s ≡ false) → (t : Target) → child_enabled c (child.Begin t) s ≡ false
-begin_settled c s l f t = elim (tried_or_past t) [
-  | inl x ↦ f t x
-  | inr x ↦
-      none_of (runs_on s.running t) (is_target s.queue.flushing t) (nat_lt 0 (slice_index s.queue.posted (target_number t)))
-      (no_flush_there s.queue.flushing t x l.flush_ok) (none_posted_there s.queue.posted t x l.posted_ok)
-]
-
-finish_settled : (c : ChannelPlan) (s : ChildState) → IsLively s → ((t : Target) → IsTried t → child_enabled c (child.Finish t) s ≡ false) → (t : Target) → child_enabled c (child.Finish t) s ≡ false
-finish_settled c s l f t = elim (tried_or_past t) [
-  | inl x ↦ f t x
-  | inr x ↦ no_run_there s.running s.queue.flushing t x l.flush_ok l.flush_is
-]
-
-still_of : (c : ChannelPlan) (w : Channel) → IsLively w.child → IsSettled c w → IsStill c w
-still_of c w l q Act = q Act tt
-still_of c w l q Verdict = q Verdict tt
-still_of c w l q Fetch = q Fetch tt
-still_of c w l q Up = q Up tt
-still_of c w l q Forward = q Forward tt
-still_of c w l q Main = q Main tt
-still_of c w l q Back = q Back tt
-still_of c w l q Release = q Release tt
-still_of c w l q (Begin t) = begin_settled c w.child l (λ u h. q (Begin u) h) t
-still_of c w l q (Finish t) = finish_settled c w.child l (λ u h. q (Finish u) h) t
-still_of c w l q (Read reader) = q (Read reader) tt
 
 -- A parent does not wait for credit for ever
 
-idle_run : (r : Option (Target × ChildEvent)) → ((t : Target) → runs_on r t ≡ false) → r ≡ None
-idle_run None f = refl
-idle_run (Some x) f = let a : same_target x.0 x.0 ≡ true = same_self x.0 in let e : same_target x.0 x.0 ≡ false = f x.0 in absurd (cc)
-
 -- with nothing left on the lanes, nothing is kept in the hold
-hold_empty : (c : ChannelPlan) (w : Channel) (j : Joined c w) → IsStill c w → (i : Whole c (mains_sent w.parent.journal) (backs_sent w.parent.journal) w.child) → w.child.hold.kept ≡ []
+hold_empty : (c : ChannelPlan) (w : Channel) (j : Joined c w) → IsSettled c w → (i : Whole c (mains_sent w.parent.journal) (backs_sent w.parent.journal) w.child) → w.child.hold.kept ≡ []
 hold_empty c w j q i =
     let s = w.child in
     let md : List MainMsg = mains_sent w.parent.journal in
@@ -110,9 +49,9 @@ hold_empty c w j q i =
     let nb : s.broken ≡ false = whole_unbroken c md bd s i in
     let hold : s.hold ≡ a.hold = hold_is c a _ _ s i.keeps in
     let tm : mains_taken s.journal ≡ a.mains = mains_is c a _ _ s i.keeps in
-    let lane0 : main_lane w ≡ [] = none_has (main_lane w) (unless s.broken (has_some (main_lane w)) nb (q Main)) in
+    let lane0 : main_lane w ≡ [] = none_has (main_lane w) (unless s.broken (has_some (main_lane w)) nb (q Main tt)) in
     let um0 : i.um ≡ [] = sym (rest_after (mains_taken s.journal) i.um md (ap (λ t. t ++ i.um) tm ∙ i.mains)) ∙ lane0 in
-    let no_report : is_some s.hold.report ≡ false = unless s.broken (is_some s.hold.report) nb (q Release) in
+    let no_report : is_some s.hold.report ≡ false = unless s.broken (is_some s.hold.report) nb (q Release tt) in
     ap (λ (h : Hold). h.kept) hold
     ∙ by_bool i.some
     (λ x. due_none c i.hop a.hold i.um um0 (λ y. reports_none s.hold.report i.hop no_report (ap (λ (h : Hold). h.report) hold ∙ y)) (λ y. (i.waits.released y).1) (i.due x))
@@ -121,25 +60,25 @@ hold_empty c w j q i =
 no_credit : (w r b : ℕ) (cr : ℤ) → 1 ≤ w → pos (w + r) ≤ℤ (cr +ℤ pos b) → r ≡ b → int_lt (pos 0) cr ≡ false → ⊥
 no_credit w r b cr l h e n = grind (arith, ints)
 
-credit_still : (c : ChannelPlan) (steps : List Step) → PlanOk c → RangesOk c → IsStill c (channel_after c steps) → (channel_after c steps).child.suspends ≡ 0
+credit_still : (c : ChannelPlan) (steps : List Step) → PlanOk c → Rests c → IsSettled c (channel_after c steps) → (channel_after c steps).child.suspends ≡ 0
     → WantsCredit c (channel_after c steps).parent → (channel_after c steps).child.stopped ≡ true
 credit_still c steps v r q z (body, wants) =
     let w = channel_after c steps in
     let s = w.child in
     let p = w.parent in
     let j : Joined c w = joined c steps in
-    let lively : IsLively s = subst (λ (x : ChildState). IsLively x) j.child_is (child_lively c j.child_steps r) in
-    let e : s.queue.waiting ≡ [] = nothing_waits c s lively (λ t. q (Begin t)) (λ t. q (Finish t)) z in
+    let rest : IsIdle s × (s.suspends ≡ 0 → s.queue.waiting ≡ []) = at_rest c steps r q in
+    let e : s.queue.waiting ≡ [] = rest.1 z in
     elim (channel_inv c steps v) [
       | inr i ↦ cut_stopped c _ s i e
       | inl i ↦
           let nb : s.broken ≡ false = whole_unbroken c _ _ s i in
-          let idle : s.running ≡ None = idle_run s.running (λ t. q (Finish t)) in
+          let idle : s.running ≡ None = rest.0.running in
           let held : s.hold.kept ≡ [] = hold_empty c w j q i in
-          let am : mains_taken s.journal ≡ mains_sent p.journal = prefix_all (mains_taken s.journal) (mains_sent p.journal) j.mains (none_has (main_lane w) (unless s.broken (has_some (main_lane w)) nb (q Main))) in
-          let moved : take w.forwarded (backs_sent p.journal) ≡ backs_sent p.journal = take_all w.forwarded (backs_sent p.journal) (all_moved w.forwarded (length (backs_sent p.journal)) (q Forward)) in
-          let ab : backs_taken s.journal ≡ backs_sent p.journal = prefix_all (backs_taken s.journal) (take w.forwarded (backs_sent p.journal)) j.backs (none_has (back_lane w) (unless s.broken (has_some (back_lane w)) nb (q Back))) ∙ moved in
-          let au : ups_taken p.journal ≡ s.sent = prefix_all (ups_taken p.journal) s.sent j.ups (none_has (up_lane w) (q Up)) in
+          let am : mains_taken s.journal ≡ mains_sent p.journal = prefix_all (mains_taken s.journal) (mains_sent p.journal) j.mains (none_has (main_lane w) (unless s.broken (has_some (main_lane w)) nb (q Main tt))) in
+          let moved : take w.forwarded (backs_sent p.journal) ≡ backs_sent p.journal = take_all w.forwarded (backs_sent p.journal) (all_moved w.forwarded (length (backs_sent p.journal)) (q Forward tt)) in
+          let ab : backs_taken s.journal ≡ backs_sent p.journal = prefix_all (backs_taken s.journal) (take w.forwarded (backs_sent p.journal)) j.backs (none_has (back_lane w) (unless s.broken (has_some (back_lane w)) nb (q Back tt))) ∙ moved in
+          let au : ups_taken p.journal ≡ s.sent = prefix_all (ups_taken p.journal) s.sent j.ups (none_has (up_lane w) (q Up tt)) in
           let keeps : Keeps c p = subst (λ (y : ParentState). Keeps c y) j.parent_is (parent_keeps c j.parent_steps v) in
           let b : InBody c p.hop p.piece p.kept (ups_taken p.journal) (mains_sent p.journal) (backs_sent p.journal) = keeps_body c p p.phase refl body keeps in
           let waits : (p.kept ≡ None) × (int_lt (pos 0) p.credit ≡ false) = body_waits p p.kept (pieces_at c p.hop) wants in
@@ -163,12 +102,12 @@ credit_still c steps v r q z (body, wants) =
           let z3 : read_of s.sent + (run_size s.running + (events_size s.queue.waiting + (backs_size s.hold.kept + (0 + o.dropped)))) ≡ backs_size (backs_taken s.journal) = o.sum in
           let all : read_of s.sent ≡ backs_size (backs_taken s.journal) = omega arith in
           let read : read_of (ups_taken p.journal) ≡ backs_size (backs_sent p.journal) = rw (au, ← ab) all in
-          absurd (no_credit c.window (read_of (ups_taken p.journal)) (backs_size (backs_sent p.journal)) p.credit r.2 (covered c steps r) read waits.1)
+          absurd (no_credit c.window (read_of (ups_taken p.journal)) (backs_size (backs_sent p.journal)) p.credit r.accepted.window.0 (covered c steps r) read waits.1)
     ]
 
 -- A channel that is still has stopped or is suspended
 
-stopped_or_not : (c : ChannelPlan) (steps : List Step) → PlanOk c → RangesOk c → c.closed ≡ false → IsStill c (channel_after c steps)
+stopped_or_not : (c : ChannelPlan) (steps : List Step) → PlanOk c → Rests c → c.closed ≡ false → IsSettled c (channel_after c steps)
     → ((channel_after c steps).child.stopped ≡ true) ⊎ (0 < (channel_after c steps).child.suspends)
 stopped_or_not c steps v r n q = elim (zero_or (channel_after c steps).child.suspends) [
   | inr x ↦ inr x
@@ -204,18 +143,15 @@ opened_now true opened due e h = cc
 opened_now false true due e h = (refl, h)
 opened_now false false due e h = cc
 
-idle_is : (r : Option (Target × ChildEvent)) → r ≡ None → is_some r ≡ false
-idle_is r e = rw e refl
-
-not_going : (c : ChannelPlan) (steps : List Step) → PlanOk c → RangesOk c → c.closed ≡ false → IsStill c (channel_after c steps) → state_ending c (channel_after c steps).child ≡ Going → ⊥
+not_going : (c : ChannelPlan) (steps : List Step) → PlanOk c → Rests c → c.closed ≡ false → IsSettled c (channel_after c steps) → state_ending c (channel_after c steps).child ≡ Going → ⊥
 not_going c steps v r n q g =
     let s = (channel_after c steps).child in
     let g1 : ending_parts c.closed s.stopped s.opened (nat_lt 0 s.suspends) (is_some s.running) (is_due s (slice_get c.controls s.next)) ≡ Going = sym (is_ending c s) ∙ g in
     elim (stopped_or_not c steps v r n q) [
       | inl x ↦ stopped_ends c.closed s.stopped s.opened _ _ _ n x g1
       | inr x ↦
-          let o : (s.opened ≡ true) × (is_due s (slice_get c.controls s.next) ≡ false) = opened_now c.closed s.opened (is_due s (slice_get c.controls s.next)) n (q Act) in
-          suspended_ends c.closed s.stopped s.opened (nat_lt 0 s.suspends) (is_some s.running) _ o.0 (lt-ltb 0 s.suspends x) (idle_is s.running (idle_run s.running (λ t. q (Finish t)))) o.1 g1
+          let o : (s.opened ≡ true) × (is_due s (slice_get c.controls s.next) ≡ false) = opened_now c.closed s.opened (is_due s (slice_get c.controls s.next)) n (q Act tt) in
+          suspended_ends c.closed s.stopped s.opened (nat_lt 0 s.suspends) (is_some s.running) _ o.0 (lt-ltb 0 s.suspends x) (ap is_some (at_rest c steps r q).0.running) o.1 g1
     ]
 
 -- the journal tells the ending
@@ -245,7 +181,7 @@ pub ending_told : (c : ChannelPlan) (steps : List Step) → PlanOk c →
     (journal_ending c (channel_after c steps).child ≡ state_ending c (channel_after c steps).child)
     × ((channel_after c steps).child.stopped ≡ ends_in_stop (channel_after c steps).child.trace)
     × ((channel_after c steps).child.suspends + count_of is_resume (channel_after c steps).child.journal ≡ count_of is_suspend (channel_after c steps).child.journal)
-    × (RangesOk c → c.closed ≡ false → IsSettled c (channel_after c steps) → journal_ending c (channel_after c steps).child ≡ Going → ⊥)
+    × (Rests c → c.closed ≡ false → IsSettled c (channel_after c steps) → journal_ending c (channel_after c steps).child ≡ Going → ⊥)
 ending_told c steps v =
     let w = channel_after c steps in
     let s = w.child in
@@ -257,5 +193,5 @@ ending_told c steps v =
       same,
       e,
       k.suspends_is,
-      λ r n q g. not_going c steps v r n (still_of c w (subst (λ (x : ChildState). IsLively x) j.child_is (child_lively c j.child_steps r)) q) (sym same ∙ g),
+      λ r n q g. not_going c steps v r n q (sym same ∙ g),
     )

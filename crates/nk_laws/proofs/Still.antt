@@ -1,11 +1,11 @@
 -- Where no step of a channel is enabled, all lanes are empty, and its parent has done all or waits.
-use Rattle.std.proofs.Common.{ℕ, zero, suc, ◌≡◌, ◌<◌, ◌≤◌, refl, sym, ◌∙◌, ap, subst, List, [], ◌∷◌, ◌++◌, length, Bool, true, false, not, ◌&&◌, ◌||◌, Option, Some, None, is_some, ◌⊎◌, inl, inr, nat_lt, take, drop, arith, slice_get}
+use Rattle.std.proofs.Common.{ℕ, zero, suc, ◌≡◌, ◌<◌, ◌≤◌, refl, sym, ◌∙◌, ap, subst, List, [], ◌∷◌, ◌++◌, length, Bool, true, false, not, ◌&&◌, ◌||◌, Option, Some, None, is_some, ◌⊎◌, ◌↔◌, inl, inr, nat_lt, take, drop, arith, slice_get}
 use Rattle.std.proofs.lemmas.List.{take_all}
 use Rattle.std.proofs.lemmas.Bool.{lt-ltb}
 use Rattle.nk_base.specs.declared.message.MainMsg.{MainMsg}
 use Rattle.nk_base.specs.declared.message.BackMsg.{BackMsg}
 use Rattle.nk_plan.specs.declared.plan.ChannelPlan.{ChannelPlan}
-use Rattle.nk_laws.proofs.Premises.{PlanOk, IsStill, RangesOk}
+use Rattle.nk_laws.proofs.Premises.{PlanOk, Rests}
 use Rattle.nk_base.specs.Queue.{has_some}
 use Rattle.nk_plan.specs.Parent.{ParentState}
 use Rattle.nk_plan.specs.Journal.{mains_sent, backs_sent, ups_taken, mains_taken, backs_taken}
@@ -15,8 +15,8 @@ use Rattle.nk_plan.specs.Child.{ChildState, back_events, is_among, Hold, is_due}
 use Rattle.nk_plan.specs.declared.event.ChildEvent.{ChildEvent}
 use Rattle.nk_plan.specs.Channel.{Channel, main_lane, back_lane, up_lane, channel_after}
 use Rattle.nk_plan.specs.declared.step.Step.{Step}
-use Rattle.nk_plan.specs.declared.step.Step.TheVariants.{Act, Fetch, Up, Forward, Main, Back, Release, Begin, Finish}
-use Rattle.nk_plan.specs.Enabled.{phase_enabled, body_enabled}
+use Rattle.nk_plan.specs.declared.step.Step.TheVariants.{Act, Verdict, Fetch, Up, Forward, Main, Back, Release, Begin, Finish}
+use Rattle.nk_plan.specs.Enabled.{phase_enabled, body_enabled, IsSettled}
 use Rattle.nk_laws.proofs.Tools.{append_nil, by_bool}
 use Rattle.nk_laws.proofs.ParentLaw.{lane_law}
 use Rattle.nk_laws.proofs.Order.{Around, Holds, strip, stops}
@@ -24,8 +24,7 @@ use Rattle.nk_laws.proofs.Merge.{run_inv, start_inv, fed, prefix_of_take}
 use Rattle.nk_laws.proofs.Taking.{Within, main_events, Due, Whole, Cut, Inv, hold_is, mains_is, backs_is, whole_unbroken}
 use Rattle.nk_laws.specs.Moves.{Joined}
 use Rattle.nk_laws.proofs.Joined.{joined, rest_after}
-use Rattle.nk_laws.proofs.Lively.{child_lively, nothing_waits}
-use Rattle.nk_laws.proofs.LivelyQueue.{IsLively}
+use Rattle.nk_half_laws.specs.Settled.{IsSettledChild, IsIdle}
 use Rattle.nk_laws.proofs.Told.{IsTold, child_told, suspends_after}
 use Rattle.nk_laws.proofs.Heard.{Hears, parent_hears}
 use Rattle.nk_base.specs.declared.message.UpMsg.{UpMsg}
@@ -33,6 +32,7 @@ use Rattle.nk_plan.specs.Plan.{pieces_at}
 use Rattle.nk_plan.specs.declared.step.Phase.{Phase}
 use Rattle.nk_plan.specs.declared.step.Phase.TheVariants.{Closed, Ready, Asking, Follow, Body, Done}
 use Rattle.nk_base.specs.declared.message.UpMsg.TheVariants as up
+use Rattle.nk_plan.specs.declared.step.ChildStep.TheVariants as child
 
 pub none_has : {A : Type 0} (w : List A) → has_some w ≡ false → w ≡ []
 none_has [] h = refl
@@ -96,7 +96,7 @@ pub all_moved : (n m : ℕ) → nat_lt n m ≡ false → m ≤ n
 all_moved n m e = elim (le_or_lt m n) [ inl x ↦ x | inr x ↦ let y : nat_lt n m ≡ true = lt-ltb n m x in absurd (cc) ]
 
 -- a channel that is still and not suspended, whose child is not broken, has shown its stop exactly where its parent has sent it
-whole_still : (c : ChannelPlan) (w : Channel) (j : Joined c w) → IsStill c w → w.child.queue.waiting ≡ []
+whole_still : (c : ChannelPlan) (w : Channel) (j : Joined c w) → IsSettled c w → w.child.queue.waiting ≡ []
     → (i : Whole c (mains_sent w.parent.journal) (backs_sent w.parent.journal) w.child) → w.child.stopped ≡ sent_all w
 whole_still c w j still e i =
     let s = w.child in
@@ -107,12 +107,12 @@ whole_still c w j still e i =
     let hold : s.hold ≡ a.hold = hold_is c a _ _ s i.keeps in
     let tm : mains_taken s.journal ≡ a.mains = mains_is c a _ _ s i.keeps in
     let tb : backs_taken s.journal ≡ a.backs = backs_is c a _ _ s i.keeps in
-    let lane0 : main_lane w ≡ [] = none_has (main_lane w) (unless s.broken (has_some (main_lane w)) nb (still Main)) in
+    let lane0 : main_lane w ≡ [] = none_has (main_lane w) (unless s.broken (has_some (main_lane w)) nb (still Main tt)) in
     let um0 : i.um ≡ [] = sym (rest_after (mains_taken s.journal) i.um md (ap (λ t. t ++ i.um) tm ∙ i.mains)) ∙ lane0 in
-    let lane1 : back_lane w ≡ [] = none_has (back_lane w) (unless s.broken (has_some (back_lane w)) nb (still Back)) in
-    let moved : take w.forwarded bd ≡ bd = take_all w.forwarded bd (all_moved w.forwarded (length bd) (still Forward)) in
+    let lane1 : back_lane w ≡ [] = none_has (back_lane w) (unless s.broken (has_some (back_lane w)) nb (still Back tt)) in
+    let moved : take w.forwarded bd ≡ bd = take_all w.forwarded bd (all_moved w.forwarded (length bd) (still Forward tt)) in
     let ub0 : i.ub ≡ [] = sym (rest_after (backs_taken s.journal) i.ub (take w.forwarded bd) (ap (λ t. t ++ i.ub) tb ∙ (i.backs ∙ sym moved))) ∙ lane1 in
-    let no_report : is_some s.hold.report ≡ false = unless s.broken (is_some s.hold.report) nb (still Release) in
+    let no_report : is_some s.hold.report ≡ false = unless s.broken (is_some s.hold.report) nb (still Release tt) in
     let kept0 : a.hold.kept ≡ [] =
     by_bool i.some
     (λ x. due_none c i.hop a.hold i.um um0 (λ y. reports_none s.hold.report i.hop no_report (ap (λ (h : Hold). h.report) hold ∙ y)) (λ y. (i.waits.released y).1) (i.due x))
@@ -120,17 +120,36 @@ whole_still c w j still e i =
     let z : stops (strip (s.queue.waiting ++ (main_events i.um ++ (back_events a.hold.kept ++ back_events i.ub)))) s.stopped ≡ a.ends = ends_at c a _ _ s i.keeps in
     over_none s.queue.waiting i.um a.hold.kept i.ub s.stopped a.ends e um0 kept0 ub0 z ∙ i.ends_is
 
+-- where nothing of a channel is enabled its child is idle; and where that is not suspended, no event waits
+child_settled : (c : ChannelPlan) (w : Channel) → IsSettled c w → IsSettledChild c w.child
+child_settled c w still child.Act o = absurd o
+child_settled c w still child.Verdict o = still Verdict tt
+child_settled c w still (child.Main m) o = absurd o
+child_settled c w still (child.Back m) o = absurd o
+child_settled c w still child.Release o = still Release tt
+child_settled c w still (child.Begin t) o = still (Begin t) o
+child_settled c w still (child.Finish t) o = still (Finish t) o
+
+pub at_rest : (c : ChannelPlan) (steps : List Step) → Rests c → IsSettled c (channel_after c steps)
+    → IsIdle (channel_after c steps).child × ((channel_after c steps).child.suspends ≡ 0 → (channel_after c steps).child.queue.waiting ≡ [])
+at_rest c steps r still =
+    let w = channel_after c steps in
+    let j : Joined c w = joined c steps in
+    let P : ChildState → Type 0 = λ s. (IsSettledChild c s ↔ IsIdle s) × (IsIdle s → s.suspends ≡ 0 → s.queue.waiting ≡ []) in
+    let known : P w.child = subst P j.child_is (r.rest c j.child_steps r.accepted) in
+    let idle : IsIdle w.child = known.0.0 (child_settled c w still) in
+    (idle, known.1 idle)
+
 -- the child's part: where nothing is enabled, an opened child has shown its stop, or is suspended, or its parent has not sent all
-pub child_still : (c : ChannelPlan) (steps : List Step) → PlanOk c → RangesOk c → IsStill c (channel_after c steps)
+pub child_still : (c : ChannelPlan) (steps : List Step) → PlanOk c → Rests c → IsSettled c (channel_after c steps)
     → ((channel_after c steps).child.stopped ≡ true) ⊎ ((0 < (channel_after c steps).child.suspends) ⊎ (sent_all (channel_after c steps) ≡ false))
 child_still c steps v r still =
     let w = channel_after c steps in
     let j : Joined c w = joined c steps in
-    let lively : IsLively w.child = subst (λ (x : ChildState). IsLively x) j.child_is (child_lively c j.child_steps r) in
     elim (zero_or w.child.suspends) [
       | inr x ↦ inr (inl x)
       | inl x ↦
-          let e : w.child.queue.waiting ≡ [] = nothing_waits c w.child lively (λ t. still (Begin t)) (λ t. still (Finish t)) x in
+          let e : w.child.queue.waiting ≡ [] = (at_rest c steps r still).1 x in
           elim (channel_inv c steps v) [
             | inl i ↦ by_bool (sent_all w) (λ y. inl (whole_still c w j still e i ∙ y)) (λ y. inr (inr y))
             | inr i ↦ inl (cut_stopped c _ w.child i e)
@@ -167,7 +186,7 @@ phase_still c p Body stopped sent e n a b d = inr (inr (e, n))
 phase_still c p Done stopped sent e n a b d = elim (b refl) [ inl x ↦ inl x | inr x ↦ absurd (cc) ]
 
 -- where nothing is enabled, an opened channel has stopped, is suspended, or its parent waits for a verdict or for credit
-pub channel_still : (c : ChannelPlan) (steps : List Step) → PlanOk c → RangesOk c → c.closed ≡ false → IsStill c (channel_after c steps)
+pub channel_still : (c : ChannelPlan) (steps : List Step) → PlanOk c → Rests c → c.closed ≡ false → IsSettled c (channel_after c steps)
     → ((channel_after c steps).child.stopped ≡ true) ⊎ ((0 < (channel_after c steps).child.suspends) ⊎ Stuck c (channel_after c steps).parent)
 channel_still c steps v r not_closed still =
     let w = channel_after c steps in
@@ -176,9 +195,9 @@ channel_still c steps v r not_closed still =
     let j : Joined c w = joined c steps in
     let told : IsTold s = subst (λ (x : ChildState). IsTold x) j.child_is (child_told c j.child_steps) in
     let heard : Hears p = subst (λ (x : ParentState). Hears x) j.parent_is (parent_hears c j.parent_steps) in
-    let none : up_lane w ≡ [] = none_has (up_lane w) (still Up) in
+    let none : up_lane w ≡ [] = none_has (up_lane w) (still Up tt) in
     let all : ups_taken p.journal ≡ s.sent = prefix_all (ups_taken p.journal) s.sent j.ups none in
-    let opened : s.opened ≡ true = opened_now c.closed s.opened (is_due s (slice_get c.controls s.next)) not_closed (still Act) in
+    let opened : s.opened ≡ true = opened_now c.closed s.opened (is_due s (slice_get c.controls s.next)) not_closed (still Act tt) in
     let open_heard : Among up.Open (ups_taken p.journal) = rw all (told.open_said opened) in
     elim (child_still c steps v r still) [
       | inl x ↦ inl x
@@ -189,7 +208,7 @@ channel_still c steps v r not_closed still =
               | inr z ↦ inr (inl z)
               | inl z ↦
                   let flag : p.suspended ≡ false = heard.flag_heard ∙ (ap (λ (u : List UpMsg). suspends_after false u) all ∙ (told.suspend_said ∙ none_above s.suspends z)) in
-                  let phase : phase_enabled c p p.phase ≡ false = and_right p.suspended (phase_enabled c p p.phase) flag (still Fetch) in
+                  let phase : phase_enabled c p p.phase ≡ false = and_right p.suspended (phase_enabled c p p.phase) flag (still Fetch tt) in
                   elim (phase_still c p p.phase s.stopped (sent_all w) refl phase (λ e. heard.closed_heard e open_heard)
                   (λ e. elim (heard.done_heard e) [ inl q ↦ inr q | inr q ↦ inl (told.deleting_said (rw all at q)) ]) x) [
                     | inl q ↦ inl q

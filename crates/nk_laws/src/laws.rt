@@ -3,6 +3,8 @@
 
 ghost use Rattle.nk_laws.specs.Laws.{LanesLaw, JoinedLaw, MovesLaw, MergeLaw, RunLaw, HopLaw, FailureLaw, CountsLaw, BoundsLaw, SendsLaw, StateLaw, OrderRunsLaw, RunOrderLaw, GreedyLaw, KeepLaw, StuckLaw, EntriesLaw, EndingToldLaw, EndingLaw, BrokenLaw, CalmLaw, ClosedLaw};
 
+use nk_half_laws::settled::{child_queue_law, child_rest_law};
+
 /// What a parent sends obeys the lane law, whatever messages come from the page's side.
 pub fn lanes_law()
     ensures { LanesLaw }
@@ -31,7 +33,9 @@ pub fn journal_law()
     ensures counts { CountsLaw }
     ensures bounds { BoundsLaw }
     ensures sends { SendsLaw }
-{}
+{
+    child_queue_law();
+}
 
 /// The state that a run leaves is a function of its journal, on each side.
 pub fn state_law()
@@ -59,11 +63,17 @@ pub fn ending_law()
     ensures told { EndingToldLaw }
     ensures ends { EndingLaw }
     ensures broken { BrokenLaw }
-{}
+{
+    child_rest_law();
+    child_queue_law();
+}
 
 /// What a run of a calm plan was shown, once it has stopped, is the plan's calm trace, and it is
 /// never left suspended. A run of a closed plan does nothing.
 pub fn calm_law()
     ensures calm { CalmLaw }
     ensures closed { ClosedLaw }
-{}
+{
+    child_rest_law();
+    child_queue_law();
+}
