@@ -1,5 +1,5 @@
--- Each enabled step of a channel leaves it less to do.
-use Rattle.std.proofs.Common.{ℕ, suc, ◌≡◌, ◌+◌, ◌-◌, ◌*◌, ◌<◌, ◌≤◌, ◌∙◌, inl, inr, refl, sym, ap, min, List, [], ◌∷◌, ◌++◌, length, length-drop, length-take, Bool, true, false, not, ◌&&◌, take, drop, if◌then◌else◌, nat_lt, arith, ltb-true}
+-- Each enabled step of a channel leaves it less to do, since the step of the half does.
+use Rattle.std.proofs.Common.{ℕ, suc, ◌≡◌, ◌+◌, ◌*◌, ◌<◌, ◌≤◌, ◌∙◌, inl, refl, sym, ap, subst, List, [], ◌∷◌, length, length-drop, length-append, Bool, true, false, not, ◌&&◌, take, drop, nat_lt, arith, ltb-true}
 use Rattle.nk_base.specs.declared.message.MainMsg.{MainMsg}
 use Rattle.nk_base.specs.declared.message.BackMsg.{BackMsg}
 use Rattle.nk_base.specs.declared.message.UpMsg.{UpMsg}
@@ -10,210 +10,221 @@ use Rattle.nk_plan.specs.declared.step.Step.TheVariants.{Act, Verdict, Fetch, Up
 use Rattle.nk_plan.specs.declared.step.ChildStep.{ChildStep}
 use Rattle.nk_plan.specs.declared.step.ChildStep.TheVariants as child
 use Rattle.nk_plan.specs.declared.step.ParentStep.TheVariants as parent
-use Rattle.nk_plan.specs.declared.journal.ChildEntry.TheVariants as entry
 use Rattle.nk_plan.specs.Accepted.{Accepted}
-use Rattle.nk_plan.specs.Journal.{mains_taken, backs_taken, ups_taken, mains_sent, backs_sent}
+use Rattle.nk_plan.specs.Journal.{mains_sent, backs_sent, mains_taken}
 use Rattle.nk_plan.specs.Parent.{ParentState, parent_step}
-use Rattle.nk_plan.specs.Child.{ChildState, with_entry, step_main, step_back, child_step}
-use Rattle.nk_plan.specs.Channel.{Channel, main_lane, back_lane, up_lane, up_step, main_step, back_step, forward_step, channel_step, half_lane}
-use Rattle.nk_plan.specs.Enabled.{child_enabled, channel_enabled}
-use Rattle.nk_drain.specs.Work.{child_work, fetches_left, work, Falls}
-use Rattle.nk_drain.proofs.Tools.{keeps_if, less_or_same, mains_more, backs_more}
-use Rattle.nk_drain.proofs.ParentFalls.{Placed, Adds, Fetched, fetch_falls, Heard, up_heard}
-use Rattle.nk_drain.proofs.ChildRows.{Row, main_row, back_row}
-use Rattle.nk_drain.proofs.ChildFalls.{Sinks, TakesNone, child_sinks}
+use Rattle.nk_plan.specs.Child.{ChildState, child_step}
+use Rattle.nk_plan.specs.Channel.{Channel, main_lane, back_lane, up_lane, half_lane, up_step, main_step, back_step, forward_step, channel_after}
+use Rattle.nk_plan.specs.Enabled.{child_enabled, parent_enabled}
+use Rattle.nk_half_laws.specs.Work.{taken_weight, output_weight, sent_weight, parent_work, child_work, queue_number, IsLower}
+use Rattle.nk_half_laws.specs.Falls.{ChildKeepsLaw, FetchFalls, FetchFallsLaw, UpFalls, UpFallsLaw, CombinedChildLaw, CombinedFetchLaw, CombinedUpLaw, combined_work}
+use Rattle.nk_laws.specs.Laws.{JoinedLaw, MovesLaw}
+use Rattle.nk_laws.specs.Moves.{Joined, ParentMoves, ChildMoves, HalfMoves, mains_of, backs_of}
+use Rattle.nk_drain.specs.Work.{lanes_weight, Falls}
+use Rattle.nk_drain.specs.Laws.{FallsLaw}
+use Rattle.nk_drain.proofs.Tools.{keeps_if}
 
--- Lists of which more was taken, or of which more there is
-
-drop_less : {A : Type 0} (xs : List A) (m n : ℕ) → m ≤ n → length (drop n xs) ≤ length (drop m xs)
-drop_less xs m n l = omega (arith, length-drop m xs, length-drop n xs)
-
-drop_next : {A : Type 0} (xs ys : List A) (y : A) (m n : ℕ) → drop m xs ≡ y ∷ ys → suc m ≤ n → suc (length (drop n xs)) ≤ length (drop m xs)
-drop_next xs ys y m n e l = let f : length (drop m xs) ≡ suc (length ys) = ap length e in omega (arith, length-drop m xs, length-drop n xs)
-
-drop_longer : {A : Type 0} (xs ys : List A) (m : ℕ) → length xs ≤ length ys → length (drop m ys) + length xs ≤ length (drop m xs) + length ys
-drop_longer xs ys m l = omega (arith, length-drop m xs, length-drop m ys)
-
--- What is known of each channel that steps lead to
-
-pub record Reached (c : ChannelPlan) (w : Channel) : Type 0 where
-  pub placed : Placed c w.parent
-  pub posted : length w.child.queue.posted ≡ 18
+-- what is known of the halves, and of the lanes between them
+pub record Known : Type 0 where
+  pub joined : JoinedLaw
+  pub moves : MovesLaw
+  pub keeps : ChildKeepsLaw
+  pub fetched : FetchFallsLaw
+  pub heard : UpFallsLaw
+  pub child : CombinedChildLaw
+  pub fetch : CombinedFetchLaw
+  pub up : CombinedUpLaw
 
 -- The child's steps
 
--- k, n, f, h, m, b and u are the child's work, what it sent, the fetches, and the four lanes, before and after
-sums : (k k' n n' g f h m m' b b' u u' : ℕ) → k + n + g ≤ k' + n' + 0 → m ≤ m' → b ≤ b' → u + n' ≤ u' + n
-    → f + 137 * m + 70 * h + 69 * b + u + k + g ≤ f + 137 * m' + 70 * h + 69 * b' + u' + k'
-sums k k' n n' g f h m m' b b' u u' x y z v = omega arith
+-- z is what it sent; m, h, b and u are the lanes, n and t all that it ever sent and showed, before and after; d is what it took
+child_sums : (m m' h b b' u u' n n' t t' d z : ℕ) → 269 * m' + 135 * b' + d ≤ 269 * m + 135 * b → u + z ≡ u' → n' ≡ n + z → t ≤ t'
+    → 269 * m' + 136 * h + 135 * b' + 2 * u' + d + (2 * n + 2 * t) ≤ 269 * m + 136 * h + 135 * b + 2 * u + (2 * n' + 2 * t')
+child_sums m m' h b b' u u' n n' t t' d z a e f g = omega arith
 
-row_lanes : (c : ChannelPlan) (w : Channel) (s : ChildState) (u : ℕ) → Row c u 0 w.child s → work c (record w { child = s }) + u ≤ work c w
-row_lanes c w s u r =
-    let m : length (drop (length (mains_taken s.journal)) (mains_sent w.parent.journal)) ≤ length (main_lane w) = drop_less (mains_sent w.parent.journal) (length (mains_taken w.child.journal)) (length (mains_taken s.journal)) r.mains in
-    let b : length (drop (length (backs_taken s.journal)) (take w.forwarded (backs_sent w.parent.journal))) ≤ length (back_lane w) = drop_less (take w.forwarded (backs_sent w.parent.journal)) (length (backs_taken w.child.journal)) (length (backs_taken s.journal)) r.backs in
-    let n : length (drop (length (ups_taken w.parent.journal)) s.sent) + length w.child.sent ≤ length (up_lane w) + length s.sent = drop_longer w.child.sent s.sent (length (ups_taken w.parent.journal)) r.sent in
-    let k : child_work c s + length s.sent + u ≤ child_work c w.child + length w.child.sent + 0 = r.less in
-    sums (child_work c s) (child_work c w.child) (length s.sent) (length w.child.sent) u (208 * fetches_left c w.parent) (length (half_lane w)) _ _ _ _ _ _ k m b n
+longer : {A : Type 0} (xs ys : List A) → length xs ≤ length ys → length ys ≡ length xs + length (drop (length xs) ys)
+longer xs ys l = omega (arith, length-drop (length xs) ys)
 
-sinks_falls : (c : ChannelPlan) (w : Channel) (s : ChildState) → Sinks c w.child s → Falls c (record w { child = s }) w
-sinks_falls c w s (inl r) = let l : work c (record w { child = s }) + 1 ≤ work c w = row_lanes c w s 1 r in inl (omega arith)
-sinks_falls c w s (inr (r, q)) =
-    let l : work c (record w { child = s }) + 0 ≤ work c w = row_lanes c w s 0 r in
-    elim (less_or_same (work c (record w { child = s })) (work c w) (omega arith)) [ inl a ↦ inl a | inr a ↦ inr (a, q) ]
+child_falls : (c : ChannelPlan) (steps : List Step) (x : ChildStep) → Known → Accepted c →
+    let w = channel_after c steps in
+    let w' = record w { child = child_step c x w.child } in
+    child_enabled c x w.child ≡ true
+    → 269 * length (main_lane w') + 135 * length (back_lane w') + taken_weight x ≤ 269 * length (main_lane w) + 135 * length (back_lane w)
+    → Falls c w' w
+child_falls c steps x k a e lanes =
+    let w : Channel = channel_after c steps in
+    let s : ChildState = child_step c x w.child in
+    let w' : Channel = record w { child = s } in
+    let j : Joined c w = k.joined c steps in
+    let m : ChildMoves w x s = (k.moves c steps).child x in
+    let keeps = k.keeps c x w.child in
+    let ups : length (up_lane w) + length (drop (length w.child.sent) s.sent) ≡ length (up_lane w') =
+    sym (length-append (up_lane w) (drop (length w.child.sent) s.sent)) ∙ ap length m.up in
+    let P : ChildState → Type 0 = λ y.
+    child_enabled c x y ≡ true → lanes_weight w' + taken_weight x + output_weight y ≤ lanes_weight w + output_weight (child_step c x y)
+    → IsLower (combined_work c w.parent (child_step c x y) (lanes_weight w')) (queue_number (child_step c x y).queue)
+    (combined_work c w.parent y (lanes_weight w)) (queue_number y.queue) in
+    let law : P w.child = subst P j.child_is (k.child c j.child_steps x w.parent (lanes_weight w) (lanes_weight w') a) in
+    law e
+    (child_sums (length (main_lane w)) (length (main_lane w')) (length (half_lane w)) (length (back_lane w)) (length (back_lane w'))
+    (length (up_lane w)) (length (up_lane w')) (length w.child.sent) (length s.sent) (length w.child.trace) (length s.trace)
+    (taken_weight x) (length (drop (length w.child.sent) s.sent)) lanes ups (longer w.child.sent s.sent keeps.0) keeps.1)
 
-child_falls : (c : ChannelPlan) (x : ChildStep) (w : Channel) → TakesNone x → Accepted c → Reached c w → child_enabled c x w.child ≡ true → Falls c (record w { child = child_step c x w.child }) w
-child_falls c x w n a r e = sinks_falls c w (child_step c x w.child) (child_sinks c x w.child n a.few_reactions r.posted e)
+-- one that takes no message
 
--- a message of the main lane, and of the background lane
+same_lanes : (m m' b b' d : ℕ) → m ≡ m' → b ≡ b' → d ≡ 0 → 269 * m' + 135 * b' + d ≤ 269 * m + 135 * b
+same_lanes m m' b b' d e f z = omega arith
 
-more_than : (a b n : ℕ) → suc a ≤ b → b ≤ n → suc a ≤ n
-more_than a b n x y = omega arith
+plain_falls : (c : ChannelPlan) (steps : List Step) (x : ChildStep) → Known → Accepted c →
+    let w = channel_after c steps in
+    mains_of x w.child.broken ≡ [] → backs_of x w.child.broken ≡ [] → taken_weight x ≡ 0 → child_enabled c x w.child ≡ true
+    → Falls c (record w { child = child_step c x w.child }) w
+plain_falls c steps x k a no_main no_back z e =
+    let w : Channel = channel_after c steps in
+    let w' : Channel = record w { child = child_step c x w.child } in
+    let m : ChildMoves w x (child_step c x w.child) = (k.moves c steps).child x in
+    child_falls c steps x k a e
+    (same_lanes (length (main_lane w)) (length (main_lane w')) (length (back_lane w)) (length (back_lane w')) (taken_weight x)
+    (ap length (ap (λ (ms : List MainMsg). drop (length ms) (main_lane w)) (sym no_main) ∙ m.main))
+    (ap length (ap (λ (ms : List BackMsg). drop (length ms) (back_lane w)) (sym no_back) ∙ m.back)) z)
 
-main_sums : (k k' n n' f h m m' b b' u u' : ℕ) → k + n + 0 ≤ k' + n' + 136 → suc m ≤ m' → b ≤ b' → u + n' ≤ u' + n
-    → f + 137 * m + 70 * h + 69 * b + u + k < f + 137 * m' + 70 * h + 69 * b' + u' + k'
-main_sums k k' n n' f h m m' b b' u u' x y z v = omega arith
+-- one that takes the first message of a lane
 
-back_sums : (k k' n n' f h m m' b b' u u' : ℕ) → k + n + 0 ≤ k' + n' + 68 → m ≤ m' → suc b ≤ b' → u + n' ≤ u' + n
-    → f + 137 * m + 70 * h + 69 * b + u + k < f + 137 * m' + 70 * h + 69 * b' + u' + k'
-back_sums k k' n n' f h m m' b b' u u' x y z v = omega arith
+may_take : (broken some : Bool) → (not broken && some) ≡ true → (broken ≡ false) × (some ≡ true)
+may_take true some e = cc
+may_take false some e = (refl, e)
 
-took_main : (c : ChannelPlan) (w : Channel) (m : MainMsg) (ms : List MainMsg) (s : ChildState) → main_lane w ≡ m ∷ ms → Row c 0 136 (with_entry (entry.TookMain m) w.child) s
-    → work c (record w { child = s }) < work c w
-took_main c w m ms s e r =
-    let old = w.child in
-    let tm : length (mains_taken (old.journal ++ entry.TookMain m ∷ [])) ≡ length (mains_taken old.journal) + 1 = mains_more old.journal (entry.TookMain m ∷ []) in
-    let tb : length (backs_taken (old.journal ++ entry.TookMain m ∷ [])) ≡ length (backs_taken old.journal) + 0 = backs_more old.journal (entry.TookMain m ∷ []) in
-    let rm : length (mains_taken (old.journal ++ entry.TookMain m ∷ [])) ≤ length (mains_taken s.journal) = r.mains in
-    let rb : length (backs_taken (old.journal ++ entry.TookMain m ∷ [])) ≤ length (backs_taken s.journal) = r.backs in
-    let gm : suc (length (mains_taken old.journal)) ≤ length (mains_taken s.journal) = omega arith in
-    let gb : length (backs_taken old.journal) ≤ length (backs_taken s.journal) = omega arith in
-    let lm : suc (length (drop (length (mains_taken s.journal)) (mains_sent w.parent.journal))) ≤ length (main_lane w) = drop_next (mains_sent w.parent.journal) ms m (length (mains_taken old.journal)) (length (mains_taken s.journal)) e gm in
-    let lb : length (drop (length (backs_taken s.journal)) (take w.forwarded (backs_sent w.parent.journal))) ≤ length (back_lane w) = drop_less (take w.forwarded (backs_sent w.parent.journal)) (length (backs_taken old.journal)) (length (backs_taken s.journal)) gb in
-    let lu : length (drop (length (ups_taken w.parent.journal)) s.sent) + length old.sent ≤ length (up_lane w) + length s.sent = drop_longer old.sent s.sent (length (ups_taken w.parent.journal)) r.sent in
-    main_sums (child_work c s) (child_work c old) (length s.sent) (length old.sent) (208 * fetches_left c w.parent) (length (half_lane w)) _ _ _ _ _ _ r.less lm lb lu
+main_less : (m m' b b' : ℕ) → m ≡ suc m' → b ≡ b' → 269 * m' + 135 * b' + 269 ≤ 269 * m + 135 * b
+main_less m m' b b' e f = omega arith
 
-took_back : (c : ChannelPlan) (w : Channel) (m : BackMsg) (ms : List BackMsg) (s : ChildState) → back_lane w ≡ m ∷ ms → Row c 0 68 (with_entry (entry.TookBack m) w.child) s
-    → work c (record w { child = s }) < work c w
-took_back c w m ms s e r =
-    let old = w.child in
-    let tm : length (mains_taken (old.journal ++ entry.TookBack m ∷ [])) ≡ length (mains_taken old.journal) + 0 = mains_more old.journal (entry.TookBack m ∷ []) in
-    let tb : length (backs_taken (old.journal ++ entry.TookBack m ∷ [])) ≡ length (backs_taken old.journal) + 1 = backs_more old.journal (entry.TookBack m ∷ []) in
-    let rm : length (mains_taken (old.journal ++ entry.TookBack m ∷ [])) ≤ length (mains_taken s.journal) = r.mains in
-    let rb : length (backs_taken (old.journal ++ entry.TookBack m ∷ [])) ≤ length (backs_taken s.journal) = r.backs in
-    let gm : length (mains_taken old.journal) ≤ length (mains_taken s.journal) = omega arith in
-    let gb : suc (length (backs_taken old.journal)) ≤ length (backs_taken s.journal) = omega arith in
-    let lm : length (drop (length (mains_taken s.journal)) (mains_sent w.parent.journal)) ≤ length (main_lane w) = drop_less (mains_sent w.parent.journal) (length (mains_taken old.journal)) (length (mains_taken s.journal)) gm in
-    let lb : suc (length (drop (length (backs_taken s.journal)) (take w.forwarded (backs_sent w.parent.journal)))) ≤ length (back_lane w) = drop_next (take w.forwarded (backs_sent w.parent.journal)) ms m (length (backs_taken old.journal)) (length (backs_taken s.journal)) e gb in
-    let lu : length (drop (length (ups_taken w.parent.journal)) s.sent) + length old.sent ≤ length (up_lane w) + length s.sent = drop_longer old.sent s.sent (length (ups_taken w.parent.journal)) r.sent in
-    back_sums (child_work c s) (child_work c old) (length s.sent) (length old.sent) (208 * fetches_left c w.parent) (length (half_lane w)) _ _ _ _ _ _ r.less lm lb lu
+main_falls : (c : ChannelPlan) (steps : List Step) (l : List MainMsg) → Known → Accepted c →
+    let w = channel_after c steps in main_lane w ≡ l → (not w.child.broken && has_some l) ≡ true → Falls c (main_step c l w) w
+main_falls c steps [] k a e h = let y : false ≡ true = (may_take (channel_after c steps).child.broken false h).1 in cc
+main_falls c steps (x ∷ xs) k a e h =
+    let w : Channel = channel_after c steps in
+    let w' : Channel = record w { child = child_step c (child.Main x) w.child } in
+    let m : ChildMoves w (child.Main x) (child_step c (child.Main x) w.child) = (k.moves c steps).child (child.Main x) in
+    let open_is : w.child.broken ≡ false = (may_take w.child.broken true h).0 in
+    let rest : xs ≡ main_lane w' =
+    sym (ap (λ (l : List MainMsg). drop 1 l) e)
+    ∙ (ap (λ (b : Bool). drop (length (mains_of (child.Main x) b)) (main_lane w)) (sym open_is) ∙ m.main) in
+    child_falls c steps (child.Main x) k a (ap not open_is)
+    (main_less (length (main_lane w)) (length (main_lane w')) (length (back_lane w)) (length (back_lane w'))
+    (ap length e ∙ ap suc (ap length rest)) (ap length m.back))
 
--- a child that is not broken takes the message
-taken_by : (broken some : Bool) (P : ChildState → Type 0) (s x : ChildState) → (not broken && some) ≡ true → P x → P (if broken then s else x)
-taken_by true some P s x e p = cc
-taken_by false some P s x e p = p
+back_less : (m m' b b' : ℕ) → m ≡ m' → b ≡ suc b' → 269 * m' + 135 * b' + 135 ≤ 269 * m + 135 * b
+back_less m m' b b' e f = omega arith
 
-none_some : (b : Bool) → (b && false) ≡ true → ⊥
-none_some true e = cc
-none_some false e = cc
-
-main_falls : (c : ChannelPlan) (w : Channel) (l : List MainMsg) → main_lane w ≡ l → (not w.child.broken && has_some l) ≡ true → Falls c (main_step c l w) w
-main_falls c w [] e h = absurd (none_some (not w.child.broken) h)
-main_falls c w (m ∷ ms) e h =
-    let s = step_main c m (with_entry (entry.TookMain m) w.child) in
-    taken_by w.child.broken true (λ x. Falls c (record w { child = x }) w) w.child s h (inl (took_main c w m ms s e (main_row c m (with_entry (entry.TookMain m) w.child))))
-
-back_falls : (c : ChannelPlan) (w : Channel) (l : List BackMsg) → back_lane w ≡ l → (not w.child.broken && has_some l) ≡ true → Falls c (back_step c l w) w
-back_falls c w [] e h = absurd (none_some (not w.child.broken) h)
-back_falls c w (m ∷ ms) e h =
-    let s = step_back c m (with_entry (entry.TookBack m) w.child) in
-    taken_by w.child.broken true (λ x. Falls c (record w { child = x }) w) w.child s h (inl (took_back c w m ms s e (back_row c m (with_entry (entry.TookBack m) w.child))))
+back_falls : (c : ChannelPlan) (steps : List Step) (l : List BackMsg) → Known → Accepted c →
+    let w = channel_after c steps in back_lane w ≡ l → (not w.child.broken && has_some l) ≡ true → Falls c (back_step c l w) w
+back_falls c steps [] k a e h = let y : false ≡ true = (may_take (channel_after c steps).child.broken false h).1 in cc
+back_falls c steps (x ∷ xs) k a e h =
+    let w : Channel = channel_after c steps in
+    let w' : Channel = record w { child = child_step c (child.Back x) w.child } in
+    let m : ChildMoves w (child.Back x) (child_step c (child.Back x) w.child) = (k.moves c steps).child (child.Back x) in
+    let open_is : w.child.broken ≡ false = (may_take w.child.broken true h).0 in
+    let rest : xs ≡ back_lane w' =
+    sym (ap (λ (l : List BackMsg). drop 1 l) e)
+    ∙ (ap (λ (b : Bool). drop (length (backs_of (child.Back x) b)) (back_lane w)) (sym open_is) ∙ m.back) in
+    child_falls c steps (child.Back x) k a (ap not open_is)
+    (back_less (length (main_lane w)) (length (main_lane w')) (length (back_lane w)) (length (back_lane w')) (ap length m.main)
+    (ap length e ∙ ap suc (ap length rest)))
 
 -- The parent's steps
 
-up_sums : (f f' k h m b u u' : ℕ) → f ≤ f' → suc u ≤ u' → 208 * f + 137 * m + 70 * h + 69 * b + u + k < 208 * f' + 137 * m + 70 * h + 69 * b + u' + k
-up_sums f f' k h m b u u' x y = omega arith
+drop_longer : {A : Type 0} (n : ℕ) (xs ys : List A) → length xs ≤ length ys
+    → length (drop n ys) + length xs ≤ length (drop n xs) + length ys
+drop_longer n xs ys l = omega (arith, length-drop n xs, length-drop n ys)
 
--- lists as long give lanes as long
-drop_same : {A : Type 0} (xs ys : List A) (m : ℕ) → length xs ≡ length ys → length (drop m xs) ≡ length (drop m ys)
-drop_same xs ys m e = omega (arith, length-drop m xs, length-drop m ys)
+-- x and y are all that was ever sent on the two down lanes
+fetch_sums : (m m' h h' b b' u u' x x' y y' : ℕ) → m' + x ≤ m + x' → h' + y ≤ h + y' → b ≡ b' → u ≡ u'
+    → 269 * m' + 136 * h' + 135 * b' + 2 * u' + (269 * x + 136 * y) ≤ 269 * m + 136 * h + 135 * b + 2 * u + (269 * x' + 136 * y')
+fetch_sums m m' h h' b b' u u' x x' y y' a d e f = omega arith
 
-took_up : (c : ChannelPlan) (w : Channel) (m : UpMsg) (ms : List UpMsg) (p : ParentState) → up_lane w ≡ m ∷ ms → Heard c w.parent p → work c (record w { parent = p }) < work c w
-took_up c w m ms p e h =
-    let old = w.parent in
-    let lm : length (drop (length (mains_taken w.child.journal)) (mains_sent p.journal)) ≡ length (main_lane w) = drop_same (mains_sent p.journal) (mains_sent old.journal) (length (mains_taken w.child.journal)) h.mains_same in
-    let lh : length (drop w.forwarded (backs_sent p.journal)) ≡ length (half_lane w) = drop_same (backs_sent p.journal) (backs_sent old.journal) w.forwarded h.backs_same in
-    let bs : length (backs_sent p.journal) ≡ length (backs_sent old.journal) = h.backs_same in
-    let lt : length (take w.forwarded (backs_sent p.journal)) ≡ length (take w.forwarded (backs_sent old.journal)) = omega (arith, length-take w.forwarded (backs_sent p.journal), length-take w.forwarded (backs_sent old.journal)) in
-    let lb : length (drop (length (backs_taken w.child.journal)) (take w.forwarded (backs_sent p.journal))) ≡ length (back_lane w) = drop_same (take w.forwarded (backs_sent p.journal)) (take w.forwarded (backs_sent old.journal)) (length (backs_taken w.child.journal)) lt in
-    let un : suc (length (ups_taken old.journal)) ≤ length (ups_taken p.journal) = omega (arith, h.ups_more) in
-    let lu : suc (length (drop (length (ups_taken p.journal)) w.child.sent)) ≤ length (up_lane w) = drop_next w.child.sent ms m (length (ups_taken old.journal)) (length (ups_taken p.journal)) e un in
-    rw (lm, lh, lb) (up_sums (fetches_left c p) (fetches_left c old) (child_work c w.child) (length (half_lane w)) (length (main_lane w)) (length (back_lane w)) _ _ h.no_more lu)
+fetch_falls : (c : ChannelPlan) (steps : List Step) → Known → Accepted c →
+    let w = channel_after c steps in
+    parent_enabled c parent.Fetch w.parent ≡ true → Falls c (record w { parent = parent_step c parent.Fetch w.parent }) w
+fetch_falls c steps k a e =
+    let w : Channel = channel_after c steps in
+    let p : ParentState = w.parent in
+    let p' : ParentState = parent_step c parent.Fetch p in
+    let w' : Channel = record w { parent = p' } in
+    let j : Joined c w = k.joined c steps in
+    let m : ParentMoves w parent.Fetch p' = (k.moves c steps).parent parent.Fetch in
+    let P : ParentState → Type 0 = λ y. parent_enabled c parent.Fetch y ≡ true → FetchFalls c y (parent_step c parent.Fetch y) in
+    let more : FetchFalls c p p' = subst P j.parent_is (k.fetched c j.parent_steps a) e in
+    let Q : ParentState → Type 0 = λ y.
+    parent_enabled c parent.Fetch y ≡ true → lanes_weight w' + sent_weight y ≤ lanes_weight w + sent_weight (parent_step c parent.Fetch y)
+    → combined_work c (parent_step c parent.Fetch y) w.child (lanes_weight w') < combined_work c y w.child (lanes_weight w) in
+    let law : Q p = subst Q j.parent_is (k.fetch c j.parent_steps w.child (lanes_weight w) (lanes_weight w') a) in
+    inl (law e
+    (fetch_sums (length (main_lane w)) (length (main_lane w')) (length (half_lane w)) (length (half_lane w')) (length (back_lane w))
+    (length (back_lane w')) (length (up_lane w)) (length (up_lane w')) (length (mains_sent p.journal)) (length (mains_sent p'.journal))
+    (length (backs_sent p.journal)) (length (backs_sent p'.journal))
+    (drop_longer (length (mains_taken w.child.journal)) (mains_sent p.journal) (mains_sent p'.journal) more.1)
+    (drop_longer w.forwarded (backs_sent p.journal) (backs_sent p'.journal) more.2) (ap length m.back) (ap length m.up)))
 
-up_falls : (c : ChannelPlan) (w : Channel) (l : List UpMsg) → up_lane w ≡ l → has_some l ≡ true → Falls c (up_step c l w) w
-up_falls c w [] e h = cc
-up_falls c w (m ∷ ms) e h = inl (took_up c w m ms (parent_step c (parent.Up m) w.parent) e (up_heard c m w.parent))
+drop_same : {A : Type 0} (n : ℕ) (xs ys : List A) → length ys ≡ length xs → length (drop n ys) ≡ length (drop n xs)
+drop_same n xs ys e = omega (arith, length-drop n xs, length-drop n ys)
 
-fetch_sums : (f f' k m m' h h' b b' u u' : ℕ) → f < f' → m ≤ m' + 1 → 70 * h + 69 * b ≤ 70 * h' + 69 * b' + 70 → u ≤ u'
-    → 208 * f + 137 * m + 70 * h + 69 * b + u + k < 208 * f' + 137 * m' + 70 * h' + 69 * b' + u' + k
-fetch_sums f f' k m m' h h' b b' u u' x y z v = omega arith
+up_sums : (m m' h h' b b' u u' : ℕ) → m' ≡ m → h' ≡ h → b ≡ b' → u ≡ suc u'
+    → 269 * m' + 136 * h' + 135 * b' + 2 * u' < 269 * m + 136 * h + 135 * b + 2 * u
+up_sums m m' h h' b b' u u' a d e f = omega arith
 
--- one more message for the half: it waits there, or goes on at once
-half_more : (n n' f t : ℕ) → n ≤ n' → n' ≤ suc n → 70 * (n' - f) + 69 * (min f n' - t) ≤ 70 * (n - f) + 69 * (min f n - t) + 70
-half_more n n' f t x y = omega arith
+up_falls : (c : ChannelPlan) (steps : List Step) (l : List UpMsg) → Known →
+    let w = channel_after c steps in up_lane w ≡ l → has_some l ≡ true → Falls c (up_step c l w) w
+up_falls c steps [] k e h = cc
+up_falls c steps (x ∷ xs) k e h =
+    let w : Channel = channel_after c steps in
+    let p : ParentState = w.parent in
+    let p' : ParentState = parent_step c (parent.Up x) p in
+    let w' : Channel = record w { parent = p' } in
+    let m : ParentMoves w (parent.Up x) p' = (k.moves c steps).parent (parent.Up x) in
+    let same : UpFalls c p p' = k.heard c x p in
+    let rest : xs ≡ up_lane w' = sym (ap (λ (l : List UpMsg). drop 1 l) e) ∙ m.up in
+    inl (k.up c x p w.child (lanes_weight w) (lanes_weight w')
+    (up_sums (length (main_lane w)) (length (main_lane w')) (length (half_lane w)) (length (half_lane w')) (length (back_lane w))
+    (length (back_lane w')) (length (up_lane w)) (length (up_lane w'))
+    (drop_same (length (mains_taken w.child.journal)) (mains_sent p.journal) (mains_sent p'.journal) same.1)
+    (drop_same w.forwarded (backs_sent p.journal) (backs_sent p'.journal) same.2) (ap length m.back) (ap length e ∙ ap suc (ap length rest))))
 
-sent_falls : (c : ChannelPlan) (w : Channel) (p : ParentState) → Fetched c w.parent p → work c (record w { parent = p }) < work c w
-sent_falls c w p g =
-    let old = w.parent in
-    let a : Adds old.journal p.journal = g.sends in
-    let mt : ℕ = length (mains_taken w.child.journal) in
-    let bt : ℕ = length (backs_taken w.child.journal) in
-    let a0 : length (mains_sent p.journal) ≤ suc (length (mains_sent old.journal)) = a.mains_most in
-    let lm : length (drop mt (mains_sent p.journal)) ≤ length (main_lane w) + 1 = omega (arith, length-drop mt (mains_sent p.journal), length-drop mt (mains_sent old.journal)) in
-    let half : 70 * (length (backs_sent p.journal) - w.forwarded) + 69 * (min w.forwarded (length (backs_sent p.journal)) - bt)
-    ≤ 70 * (length (backs_sent old.journal) - w.forwarded) + 69 * (min w.forwarded (length (backs_sent old.journal)) - bt) + 70
-    = half_more (length (backs_sent old.journal)) (length (backs_sent p.journal)) w.forwarded bt a.backs_least a.backs_most in
-    let lb : 70 * length (drop w.forwarded (backs_sent p.journal)) + 69 * length (drop bt (take w.forwarded (backs_sent p.journal))) ≤ 70 * length (half_lane w) + 69 * length (back_lane w) + 70 =
-    rw (
-      length-drop w.forwarded (backs_sent p.journal),
-      length-drop w.forwarded (backs_sent old.journal),
-      length-drop bt (take w.forwarded (backs_sent p.journal)),
-      length-drop bt (take w.forwarded (backs_sent old.journal)),
-      length-take w.forwarded (backs_sent p.journal),
-      length-take w.forwarded (backs_sent old.journal),
-    ) half in
-    let lu : length (drop (length (ups_taken p.journal)) w.child.sent) ≤ length (up_lane w) = drop_less w.child.sent (length (ups_taken old.journal)) (length (ups_taken p.journal)) a.ups_least in
-    fetch_sums (fetches_left c p) (fetches_left c old) (child_work c w.child) _ _ _ _ _ _ _ _ g.fewer lm lb lu
+-- A message moves on
 
--- a message moves on from the half
+forward_sums : (p s m h h' b b' u y : ℕ) → y ≤ 1 → h' + 1 ≡ h → b + y ≡ b'
+    → p + s + (269 * m + 136 * h' + 135 * b' + 2 * u) < p + s + (269 * m + 136 * h + 135 * b + 2 * u)
+forward_sums p s m h h' b b' u y a d e = omega arith
 
-moved_sums : (g k h h' b b' u : ℕ) → suc h ≤ h' → b ≤ b' + 1 → g + 70 * h + 69 * b + u + k < g + 70 * h' + 69 * b' + u + k
-moved_sums g k h h' b b' u x y = omega arith
+less_one : {A : Type 0} (n : ℕ) (xs ys : List A) → n < length xs → drop 1 (drop n xs) ≡ ys → length ys + 1 ≡ length (drop n xs)
+less_one n xs ys l e = omega (arith, ap length e, length-drop 1 (drop n xs), length-drop n xs)
 
-forward_falls : (c : ChannelPlan) (w : Channel) → nat_lt w.forwarded (length (backs_sent w.parent.journal)) ≡ true → Falls c (forward_step w) w
-forward_falls c w e =
+take_one : {A : Type 0} (xs : List A) → length (take 1 xs) ≤ 1
+take_one [] = omega arith
+take_one (x ∷ xs) = omega arith
+
+forward_falls : (c : ChannelPlan) (steps : List Step) → Known →
+    let w = channel_after c steps in nat_lt w.forwarded (length (backs_sent w.parent.journal)) ≡ true → Falls c (forward_step w) w
+forward_falls c steps k e =
+    let w : Channel = channel_after c steps in
+    let w' : Channel = record w { forwarded = suc w.forwarded } in
     let bs : List BackMsg = backs_sent w.parent.journal in
-    let bt : ℕ = length (backs_taken w.child.journal) in
-    let l : w.forwarded < length bs = ltb-true w.forwarded (length bs) e in
-    let lh : suc (length (drop (suc w.forwarded) bs)) ≤ length (drop w.forwarded bs) = omega (arith, length-drop w.forwarded bs, length-drop (suc w.forwarded) bs) in
-    let t0 : length (take w.forwarded bs) ≡ min w.forwarded (length bs) = length-take w.forwarded bs in
-    let t1 : length (take (suc w.forwarded) bs) ≡ min (suc w.forwarded) (length bs) = length-take (suc w.forwarded) bs in
-    let tt0 : length (take (suc w.forwarded) bs) ≤ length (take w.forwarded bs) + 1 = omega arith in
-    let lb : length (drop bt (take (suc w.forwarded) bs)) ≤ length (drop bt (take w.forwarded bs)) + 1 = omega (arith, length-drop bt (take w.forwarded bs), length-drop bt (take (suc w.forwarded) bs)) in
-    keeps_if (λ x. Falls c x w) (nat_lt w.forwarded (length bs)) (record w { forwarded = suc w.forwarded }) w
-    (λ r. inl (moved_sums (208 * fetches_left c w.parent + 137 * length (main_lane w)) (child_work c w.child) _ _ _ _ (length (up_lane w)) lh lb))
-    (λ r. let no : true ≡ false = sym e ∙ r in absurd (cc))
+    let m : HalfMoves w w' = (k.moves c steps).half in
+    let moved : length (back_lane w) + length (take 1 (half_lane w)) ≡ length (back_lane w') =
+    sym (length-append (back_lane w) (take 1 (half_lane w))) ∙ ap length m.back in
+    keeps_if (λ (y : Channel). Falls c y w) (nat_lt w.forwarded (length bs)) w' w
+    (λ r. inl (forward_sums (parent_work c w.parent) (child_work c w.child) (length (main_lane w)) (length (half_lane w))
+    (length (half_lane w')) (length (back_lane w)) (length (back_lane w')) (length (up_lane w)) (length (take 1 (half_lane w)))
+    (take_one (half_lane w)) (less_one w.forwarded bs (half_lane w') (ltb-true w.forwarded (length bs) r) m.inner) moved))
+    (λ r. cc (e, r))
 
--- All steps
-
-pub step_falls : (c : ChannelPlan) (x : Step) (w : Channel) → Accepted c → Reached c w → channel_enabled c x w ≡ true → Falls c (channel_step c x w) w
-step_falls c Act w a r e = child_falls c child.Act w tt a r e
-step_falls c Verdict w a r e = child_falls c child.Verdict w tt a r e
-step_falls c Fetch w a r e = inl (sent_falls c w (parent_step c parent.Fetch w.parent) (fetch_falls c w.parent a r.placed e))
-step_falls c Up w a r e = up_falls c w (up_lane w) refl e
-step_falls c Forward w a r e = forward_falls c w e
-step_falls c Main w a r e = main_falls c w (main_lane w) refl e
-step_falls c Back w a r e = back_falls c w (back_lane w) refl e
-step_falls c Release w a r e = child_falls c child.Release w tt a r e
-step_falls c (Begin t) w a r e = child_falls c (child.Begin t) w tt a r e
-step_falls c (Finish t) w a r e = child_falls c (child.Finish t) w tt a r e
-step_falls c (Read reader) w a r e = cc
+pub falls : Known → FallsLaw
+falls k c steps Act a e = plain_falls c steps child.Act k a refl refl refl e
+falls k c steps Verdict a e = plain_falls c steps child.Verdict k a refl refl refl e
+falls k c steps Fetch a e = fetch_falls c steps k a e
+falls k c steps Up a e = up_falls c steps (up_lane (channel_after c steps)) k refl e
+falls k c steps Forward a e = forward_falls c steps k e
+falls k c steps Main a e = main_falls c steps (main_lane (channel_after c steps)) k a refl e
+falls k c steps Back a e = back_falls c steps (back_lane (channel_after c steps)) k a refl e
+falls k c steps Release a e = plain_falls c steps child.Release k a refl refl refl e
+falls k c steps (Begin t) a e = plain_falls c steps (child.Begin t) k a refl refl refl e
+falls k c steps (Finish t) a e = plain_falls c steps (child.Finish t) k a refl refl refl e
+falls k c steps (Read reader) a e = cc

@@ -1,12 +1,5 @@
-pub mod ChildFalls
-pub mod ChildRows
 pub mod Falls
-pub mod Hops
 pub mod Idle
-pub mod ParentFalls
-pub mod QueueFalls
-pub mod Reach
-pub mod Rooms
 pub mod Rounds
 pub mod Rows
 pub mod Tools
