@@ -4,7 +4,7 @@ use Rattle.nk_base.specs.declared.message.MainMsg.{MainMsg}
 use Rattle.nk_base.specs.declared.message.BackMsg.{BackMsg}
 use Rattle.nk_base.specs.declared.message.UpMsg.{UpMsg}
 use Rattle.nk_plan.specs.declared.plan.ChannelPlan.{ChannelPlan}
-use Rattle.nk_laws.proofs.Premises.{PlanOk, Rests, WantsCredit}
+use Rattle.nk_laws.proofs.Premises.{PlanOk, Known, WantsCredit}
 use Rattle.nk_plan.specs.Parent.{ParentState, parent_step, give_start, bare_head, fetch_finish, fetch_piece, fetch_body, fetch_redirect, fetch_hop, fetch_follow, fetch_in, take_up, opened_phase, awaits_verdict}
 use Rattle.nk_plan.specs.Journal.{mains_sent, backs_sent, ups_taken, mains_taken}
 use Rattle.nk_plan.specs.Child.{ChildState}
@@ -218,7 +218,7 @@ is_some_of None h e f = cc
 is_some_of (Some x) h e f = cc
 
 -- a still parent that asks has a child that stopped or is suspended
-pub asking_still : (c : ChannelPlan) (steps : List Step) → PlanOk c → Rests c → IsSettled c (channel_after c steps) → (channel_after c steps).parent.phase ≡ Asking
+pub asking_still : (c : ChannelPlan) (steps : List Step) → PlanOk c → Known c → IsSettled c (channel_after c steps) → (channel_after c steps).parent.phase ≡ Asking
     → ((channel_after c steps).child.stopped ≡ true) ⊎ (0 < (channel_after c steps).child.suspends)
 asking_still c steps v r still ask =
     let w = channel_after c steps in
@@ -247,7 +247,7 @@ asking_still c steps v r still ask =
           ]
     ]
 
-pub still : (c : ChannelPlan) (steps : List Step) → PlanOk c → Rests c → c.closed ≡ false → IsSettled c (channel_after c steps)
+pub still : (c : ChannelPlan) (steps : List Step) → PlanOk c → Known c → c.closed ≡ false → IsSettled c (channel_after c steps)
     → ((channel_after c steps).child.stopped ≡ true) ⊎ ((0 < (channel_after c steps).child.suspends) ⊎ WantsCredit c (channel_after c steps).parent)
 still c steps v r n q = elim (channel_still c steps v r n q) [
   | inl x ↦ inl x

@@ -6,7 +6,7 @@ use Rattle.nk_base.specs.declared.message.BackMsg.{BackMsg}
 use Rattle.nk_base.specs.declared.message.UpMsg.{UpMsg}
 use Rattle.nk_plan.specs.declared.plan.ChannelPlan.{ChannelPlan}
 use Rattle.nk_laws.proofs.Tally.{journal_ending}
-use Rattle.nk_laws.proofs.Premises.{PlanOk, VerdictOk, HopOk, EndsByFailure, Rests}
+use Rattle.nk_laws.proofs.Premises.{PlanOk, VerdictOk, HopOk, EndsByFailure, Known}
 use Rattle.nk_plan.specs.Trace.{SeqTrace, Follows}
 use Rattle.nk_plan.specs.Parent.{ParentState}
 use Rattle.nk_plan.specs.Journal.{mains_sent, backs_sent, ups_taken, backs_taken, first, final, cut}
@@ -469,7 +469,7 @@ open_calm c e = open_by c.closed (calm_from c (last_hop c) (opening_failure (las
 not_suspended : (n : ℕ) → n ≡ 0 → nat_lt 0 n ≡ true → ⊥
 not_suspended n z e = let l : 0 < n = ltb-true 0 n e in omega arith
 
-calm_run_of : (c : ChannelPlan) (steps : List Step) → PlanOk c → Rests c → IsCalm c → EndsByFailure c.reactions → Led c (channel_after c steps).parent
+calm_run_of : (c : ChannelPlan) (steps : List Step) → PlanOk c → Known c → IsCalm c → EndsByFailure c.reactions → Led c (channel_after c steps).parent
     → CalmRun c (calm_status c) (StopIn (mains_sent (channel_after c steps).parent.journal) (backs_sent (channel_after c steps).parent.journal)) (Unit {0}) (channel_after c steps).child
 calm_run_of c steps v r cp ev led =
     let w = channel_after c steps in
@@ -478,7 +478,7 @@ calm_run_of c steps v r cp ev led =
     let m : Msgs c w.parent.journal = led.1 in
     channel_calm c (calm_status c) (StopIn md bd) (Unit {0}) steps v r (calm_ok c v) cp ev (mains_up (calm_status c) (Unit {0}) md bd md (λ x a. a) m.0) (backs_up (calm_status c) (Unit {0}) md bd bd (λ x a. a) m.1)
 
-calm_stopped : (c : ChannelPlan) (steps : List Step) → PlanOk c → Rests c → IsCalm c → EndsByFailure c.reactions → c.closed ≡ false → (channel_after c steps).child.stopped ≡ true → (channel_after c steps).child.trace ≡ calm_trace c
+calm_stopped : (c : ChannelPlan) (steps : List Step) → PlanOk c → Known c → IsCalm c → EndsByFailure c.reactions → c.closed ≡ false → (channel_after c steps).child.stopped ≡ true → (channel_after c steps).child.trace ≡ calm_trace c
 calm_stopped c steps v r cp ev closed stop =
     let w = channel_after c steps in
     let s = w.child in
@@ -517,7 +517,7 @@ calm_stopped c steps v r cp ev closed stop =
     ] in
     p ∙ open_calm c closed
 
-pub calm_law_holds : (c : ChannelPlan) (steps : List Step) → PlanOk c → Rests c → IsCalm c → EndsByFailure c.reactions → c.closed ≡ false →
+pub calm_law_holds : (c : ChannelPlan) (steps : List Step) → PlanOk c → Known c → IsCalm c → EndsByFailure c.reactions → c.closed ≡ false →
     (journal_ending c (channel_after c steps).child ≡ Stopped → (channel_after c steps).child.trace ≡ calm_trace c)
     × (journal_ending c (channel_after c steps).child ≡ Suspended → ⊥)
 calm_law_holds c steps v r cp ev closed =

@@ -4,7 +4,7 @@ use Rattle.nk_base.specs.declared.message.MainMsg.{MainMsg}
 use Rattle.nk_base.specs.declared.message.BackMsg.{BackMsg}
 use Rattle.nk_plan.specs.declared.plan.ChannelPlan.{ChannelPlan}
 use Rattle.nk_plan.specs.declared.step.ChildStep.{ChildStep}
-use Rattle.nk_laws.proofs.Premises.{PlanOk, Rests, EndsByFailure}
+use Rattle.nk_laws.proofs.Premises.{PlanOk, Known, EndsByFailure}
 use Rattle.nk_plan.specs.Parent.{ParentState}
 use Rattle.nk_plan.specs.Journal.{mains_sent, backs_sent, ups_taken, mains_taken, backs_taken}
 use Rattle.nk_laws.proofs.Sent.{SentLaw}
@@ -182,7 +182,7 @@ start_calm_run c E T G =
       course = Quiet refl refl refl tt refl tt (let z : backs_bytes (new_hold c.start).kept ≡ 0 = ap backs_bytes e in let y : 0 + (0 + (backs_bytes (new_hold c.start).kept + 0)) ≡ 0 = omega arith in y);
     }
 
-pub calm_steps : (c : ChannelPlan) (E : Status) (T : Status → Type 0) (G : Type 0) (md : List MainMsg) (bd : List BackMsg) (steps : List ChildStep) → PlanOk c → Rests c → OkOrFails E → IsCalm c → EndsByFailure c.reactions → RightMains E T G md → RightBacks E T G bd → Inv c md bd (new_child c)
+pub calm_steps : (c : ChannelPlan) (E : Status) (T : Status → Type 0) (G : Type 0) (md : List MainMsg) (bd : List BackMsg) (steps : List ChildStep) → PlanOk c → Known c → OkOrFails E → IsCalm c → EndsByFailure c.reactions → RightMains E T G md → RightBacks E T G bd → Inv c md bd (new_child c)
     → Within md bd (child_after c steps).journal → CalmRun c E T G (child_after c steps)
 calm_steps c E T G md bd [] v r ef cp ev rm rb i w = start_calm_run c E T G
 calm_steps c E T G md bd (x ∷ xs) v r ef cp ev rm rb i w =
@@ -195,7 +195,7 @@ calm_steps c E T G md bd (x ∷ xs) v r ef cp ev rm rb i w =
       | inr j ↦ absurd (not_cut c _ s k.unbroken j)
     ]
 
-pub channel_calm : (c : ChannelPlan) (E : Status) (T : Status → Type 0) (G : Type 0) (steps : List Step) → PlanOk c → Rests c → OkOrFails E → IsCalm c → EndsByFailure c.reactions
+pub channel_calm : (c : ChannelPlan) (E : Status) (T : Status → Type 0) (G : Type 0) (steps : List Step) → PlanOk c → Known c → OkOrFails E → IsCalm c → EndsByFailure c.reactions
     → RightMains E T G (mains_sent (channel_after c steps).parent.journal) → RightBacks E T G (backs_sent (channel_after c steps).parent.journal) → CalmRun c E T G (channel_after c steps).child
 channel_calm c E T G steps v r ef cp ev rm rb =
     let w = channel_after c steps in

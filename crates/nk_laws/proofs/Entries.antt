@@ -16,7 +16,8 @@ use Rattle.nk_plan.specs.Telling.{Telling, new_telling, sends_at, telling_after,
 use Rattle.nk_plan.specs.Walk.{ParentBlock, ChildBlock, walk_start, CanPlace, places_all}
 use Rattle.nk_laws.proofs.Tools.{append_nil, last_empty}
 use Rattle.nk_laws.proofs.Blocks.{ParentTakesFirst, parent_enters, ChildTakesFirst, child_enters, parent_block_at, child_block_at, parent_block_is, child_block_is}
-use Rattle.nk_laws.proofs.Tells.{telling_at, child_tells}
+use Rattle.nk_half_laws.specs.Growth.{GrowthLaw, telling_at}
+use Rattle.nk_laws.proofs.Tells.{child_named}
 use Rattle.nk_laws.proofs.Placing.{walk_exact}
 use Rattle.nk_laws.proofs.CutChild.{ChildPiece, Nothing, Parts, total, child_whole, quiet_child, child_parts, child_wholes, all_child_parts, child_cut}
 use Rattle.nk_laws.proofs.CutParent.{Sends, ParentPiece, total_mains, total_backs, parent_whole, quiet_parent, parent_parts, parent_wholes, all_parent_parts, parent_cut}
@@ -186,26 +187,26 @@ sends_from-append t [] k = refl
 sends_from-append t (e ∷ j) k = ap (λ x. sends_at t e ++ x) (sends_from-append (telling_after t e) j k) ∙ sym (append_assoc (sends_at t e) (sends_from (telling_after t e) j) (sends_from (telling_at (telling_after t e) j) k))
 
 -- what a step sent is what its entries tell
-step_sends : (c : ChannelPlan) (x : ChildStep) (xs : List ChildStep) → length (child_enters c x (child_after c xs)).messages ≡ length (sends_from (told c xs) (child_enters c x (child_after c xs)).entries)
-step_sends c x xs =
+step_sends : GrowthLaw → (c : ChannelPlan) (x : ChildStep) (xs : List ChildStep) → length (child_enters c x (child_after c xs)).messages ≡ length (sends_from (told c xs) (child_enters c x (child_after c xs)).entries)
+step_sends growth c x xs =
     let s : ChildState = child_after c xs in
     let e = child_enters c x s in
-    let before : sends_from new_telling s.journal ≡ s.sent = (child_tells c xs).sends_are in
-    let after : sends_from new_telling (child_after c (x ∷ xs)).journal ≡ (child_after c (x ∷ xs)).sent = (child_tells c (x ∷ xs)).sends_are in
+    let before : sends_from new_telling s.journal ≡ s.sent = (child_named growth c xs).sends in
+    let after : sends_from new_telling (child_after c (x ∷ xs)).journal ≡ (child_after c (x ∷ xs)).sent = (child_named growth c (x ∷ xs)).sends in
     let all : s.sent ++ sends_from (told c xs) e.entries ≡ s.sent ++ e.messages =
     ap (λ t. t ++ sends_from (told c xs) e.entries) (sym before) ∙ (sym (sends_from-append new_telling s.journal e.entries) ∙ (ap (λ t. sends_from new_telling t) (sym e.journal_is) ∙ (after ∙ e.sent_is))) in
     let l = length-append s.sent (sends_from (told c xs) e.entries) in
     let k = length-append s.sent e.messages in
     let a = ap length all in omega arith
 
-child_wholes_are : (c : ChannelPlan) (xs : List ChildStep) → child_wholes (child_pieces c xs) ≡ child_blocks c xs
-child_wholes_are c [] = refl
-child_wholes_are c (x ∷ xs) =
+child_wholes_are : GrowthLaw → (c : ChannelPlan) (xs : List ChildStep) → child_wholes (child_pieces c xs) ≡ child_blocks c xs
+child_wholes_are growth c [] = refl
+child_wholes_are growth c (x ∷ xs) =
     let s : ChildState = child_after c xs in
     let e = child_enters c x s in
-    let b : child_whole (child_piece (told c xs) e.entries) ≡ child_block_at c x s = child_whole_is (told c xs) e.entries e.messages e.takes_first (step_sends c x xs) ∙ sym (child_block_is c x s e) in
+    let b : child_whole (child_piece (told c xs) e.entries) ≡ child_block_at c x s = child_whole_is (told c xs) e.entries e.messages e.takes_first (step_sends growth c x xs) ∙ sym (child_block_is c x s e) in
     child_wholes-append (child_pieces c xs) (child_piece (told c xs) e.entries ∷ [])
-    ∙ (ap (λ t. t ++ child_whole (child_piece (told c xs) e.entries) ∷ []) (child_wholes_are c xs)
+    ∙ (ap (λ t. t ++ child_whole (child_piece (told c xs) e.entries) ∷ []) (child_wholes_are growth c xs)
     ∙ ap (λ y. child_blocks c xs ++ y ∷ []) b)
 
 child_parts_are : (c : ChannelPlan) (xs : List ChildStep) → all_child_parts (child_pieces c xs) ≡ child_entries new_telling (child_after c xs).journal
@@ -221,24 +222,24 @@ child_parts_are c (x ∷ xs) =
 
 -- Both
 
-entries_place : (c : ChannelPlan) (xs : List ParentStep) (ys : List ChildStep) (n : ℕ)
+entries_place : GrowthLaw → (c : ChannelPlan) (xs : List ParentStep) (ys : List ChildStep) (n : ℕ)
     → CanPlace (walk_start (parent_blocks c xs) n (child_blocks c ys)) → CanPlace (walk_start (parent_entries (parent_after c xs).journal) n (child_entries new_telling (child_after c ys).journal))
-entries_place c xs ys n h =
+entries_place growth c xs ys n h =
     let a : CanPlace (walk_start (parent_wholes (parent_pieces c xs)) n (child_blocks c ys)) = subst (λ t. CanPlace (walk_start t n (child_blocks c ys))) (sym (parent_wholes_are c xs)) h in
     let b : CanPlace (walk_start (parent_entries (parent_after c xs).journal) n (child_blocks c ys)) = subst (λ t. CanPlace (walk_start t n (child_blocks c ys))) (parent_parts_are c xs) ((parent_cut (parent_pieces c xs) n (child_blocks c ys)).0 a) in
-    let d : CanPlace (walk_start (parent_entries (parent_after c xs).journal) n (child_wholes (child_pieces c ys))) = subst (λ t. CanPlace (walk_start (parent_entries (parent_after c xs).journal) n t)) (sym (child_wholes_are c ys)) b in
+    let d : CanPlace (walk_start (parent_entries (parent_after c xs).journal) n (child_wholes (child_pieces c ys))) = subst (λ t. CanPlace (walk_start (parent_entries (parent_after c xs).journal) n t)) (sym (child_wholes_are growth c ys)) b in
     subst (λ t. CanPlace (walk_start (parent_entries (parent_after c xs).journal) n t)) (child_parts_are c ys) ((child_cut (child_pieces c ys) (parent_entries (parent_after c xs).journal) n).0 d)
 
-blocks_place : (c : ChannelPlan) (xs : List ParentStep) (ys : List ChildStep) (n : ℕ)
+blocks_place : GrowthLaw → (c : ChannelPlan) (xs : List ParentStep) (ys : List ChildStep) (n : ℕ)
     → CanPlace (walk_start (parent_entries (parent_after c xs).journal) n (child_entries new_telling (child_after c ys).journal)) → CanPlace (walk_start (parent_blocks c xs) n (child_blocks c ys))
-blocks_place c xs ys n h =
+blocks_place growth c xs ys n h =
     let a : CanPlace (walk_start (parent_entries (parent_after c xs).journal) n (all_child_parts (child_pieces c ys))) = subst (λ t. CanPlace (walk_start (parent_entries (parent_after c xs).journal) n t)) (sym (child_parts_are c ys)) h in
-    let b : CanPlace (walk_start (parent_entries (parent_after c xs).journal) n (child_blocks c ys)) = subst (λ t. CanPlace (walk_start (parent_entries (parent_after c xs).journal) n t)) (child_wholes_are c ys) ((child_cut (child_pieces c ys) (parent_entries (parent_after c xs).journal) n).1 a) in
+    let b : CanPlace (walk_start (parent_entries (parent_after c xs).journal) n (child_blocks c ys)) = subst (λ t. CanPlace (walk_start (parent_entries (parent_after c xs).journal) n t)) (child_wholes_are growth c ys) ((child_cut (child_pieces c ys) (parent_entries (parent_after c xs).journal) n).1 a) in
     let d : CanPlace (walk_start (all_parent_parts (parent_pieces c xs)) n (child_blocks c ys)) = subst (λ t. CanPlace (walk_start t n (child_blocks c ys))) (sym (parent_parts_are c xs)) b in
     subst (λ t. CanPlace (walk_start t n (child_blocks c ys))) (parent_wholes_are c xs) ((parent_cut (parent_pieces c xs) n (child_blocks c ys)).1 d)
 
-pub entries_exact : (c : ChannelPlan) (xs : List ParentStep) (ys : List ChildStep) (n : ℕ)
+pub entries_exact : GrowthLaw → (c : ChannelPlan) (xs : List ParentStep) (ys : List ChildStep) (n : ℕ)
     → places_all (walk_start (parent_entries (parent_after c xs).journal) n (child_entries new_telling (child_after c ys).journal)) ≡ true ↔ CanPlace (walk_start (parent_blocks c xs) n (child_blocks c ys))
-entries_exact c xs ys n =
+entries_exact growth c xs ys n =
     let w = walk_exact (walk_start (parent_entries (parent_after c xs).journal) n (child_entries new_telling (child_after c ys).journal)) in
-    (λ h. blocks_place c xs ys n (w.0 h), λ h. w.1 (entries_place c xs ys n h))
+    (λ h. blocks_place growth c xs ys n (w.0 h), λ h. w.1 (entries_place growth c xs ys n h))

@@ -5,7 +5,7 @@ use Rattle.nk_base.specs.declared.message.BackMsg.{BackMsg}
 use Rattle.nk_base.specs.declared.message.UpMsg.{UpMsg}
 use Rattle.nk_plan.specs.declared.plan.ChannelPlan.{ChannelPlan}
 use Rattle.nk_plan.specs.declared.journal.ParentEntry.{ParentEntry}
-use Rattle.nk_laws.proofs.Premises.{PlanOk, VerdictOk, HopOk, EndsByFailure, Rests}
+use Rattle.nk_laws.proofs.Premises.{PlanOk, VerdictOk, HopOk, EndsByFailure, Known}
 use Rattle.nk_plan.specs.Trace.{SeqTrace, Follows}
 use Rattle.nk_plan.specs.Parent.{ParentState, parent_step, start_entries, give_start, bare_head, fetch_finish, fetch_piece, fetch_body, fetch_redirect, fetch_hop, fetch_follow, fetch_in, take_up, opened_phase, kept_after_cancel, awaits_verdict, offset_of}
 use Rattle.nk_plan.specs.Journal.{mains_sent, backs_sent, ups_taken, first, final, cut}
@@ -393,7 +393,7 @@ end_ok f (Some (hop.Response head pieces end trailers)) v = inl refl
 pub calm_ok : (c : ChannelPlan) → PlanOk c → OkOrFails (calm_status c)
 calm_ok c v = end_ok (last_hop c) (hop_at c (last_hop c)) (v.0 (last_hop c))
 
-early_right : (c : ChannelPlan) (steps : List Step) → PlanOk c → Rests c → IsCalm c → EndsByFailure c.reactions → IsEarly (channel_after c steps).parent.phase → RightUps c (channel_after c steps).child.sent
+early_right : (c : ChannelPlan) (steps : List Step) → PlanOk c → Known c → IsCalm c → EndsByFailure c.reactions → IsEarly (channel_after c steps).parent.phase → RightUps c (channel_after c steps).child.sent
 early_right c steps v r cp ev e =
     let w = channel_after c steps in
     let j : Joined c w = joined c steps in
@@ -428,6 +428,6 @@ step_led c (Begin t) w v f l = l
 step_led c (Finish t) w v f l = l
 step_led c (Read reader) w v f l = l
 
-pub channel_led : (c : ChannelPlan) (steps : List Step) → PlanOk c → Rests c → IsCalm c → EndsByFailure c.reactions → Led c (channel_after c steps).parent
+pub channel_led : (c : ChannelPlan) (steps : List Step) → PlanOk c → Known c → IsCalm c → EndsByFailure c.reactions → Led c (channel_after c steps).parent
 channel_led c [] v r cp ev = ((λ i p. absurd (omega arith), refl, omega arith, refl), (tt, tt, tt, tt))
 channel_led c (x ∷ xs) v r cp ev = step_led c x (channel_after c xs) v (λ e. early_right c xs v r cp ev e) (channel_led c xs v r cp ev)

@@ -5,7 +5,7 @@ use Rattle.nk_base.specs.declared.message.BackMsg.{BackMsg}
 use Rattle.nk_base.specs.declared.message.UpMsg.{UpMsg}
 use Rattle.nk_plan.specs.declared.plan.ChannelPlan.{ChannelPlan}
 use Rattle.nk_plan.specs.declared.journal.ParentEntry.{ParentEntry}
-use Rattle.nk_laws.proofs.Premises.{Rests}
+use Rattle.nk_laws.proofs.Premises.{Known}
 use Rattle.nk_plan.specs.Parent.{ParentState, parent_step, start_entries, give_start, bare_head, fetch_finish, fetch_piece, fetch_body, fetch_redirect, fetch_hop, fetch_follow, fetch_in, take_up, offset_of}
 use Rattle.nk_plan.specs.Journal.{mains_sent, backs_sent, ups_taken, backs_taken}
 use Rattle.nk_plan.specs.Child.{ChildState}
@@ -143,7 +143,7 @@ up_covered c m s w h =
     rw (eu, eb) (credit_after c m s h (rw (eu, eb) at w))
 
 -- no more was read than was sent
-read_within : (c : ChannelPlan) (w : Channel) → Joined c w → Rests c → read_of (ups_taken w.parent.journal) ≤ backs_size (backs_sent w.parent.journal)
+read_within : (c : ChannelPlan) (w : Channel) → Joined c w → Known c → read_of (ups_taken w.parent.journal) ≤ backs_size (backs_sent w.parent.journal)
 read_within c w j v =
     let s = w.child in
     let o : OwesAll true s = subst (λ (x : ChildState). OwesAll true x) j.child_is (child_owes true c j.child_steps v (λ e. cc, λ e. cc)) in
@@ -181,7 +181,7 @@ step_covered c (Read reader) w r h = h
 start_covers : (n : ℕ) → pos (n + 0) ≤ℤ (pos n +ℤ pos 0)
 start_covers n = omega (arith, ints)
 
-pub covered : (c : ChannelPlan) (steps : List Step) → Rests c → Covered c (channel_after c steps).parent
+pub covered : (c : ChannelPlan) (steps : List Step) → Known c → Covered c (channel_after c steps).parent
 covered c [] v = start_covers c.window
 covered c (x ∷ xs) v = step_covered c x (channel_after c xs) (read_within c (channel_after c (x ∷ xs)) (joined c (x ∷ xs)) v) (covered c xs v)
 

@@ -16,7 +16,8 @@ use Rattle.nk_plan.specs.Accepted.{Accepted, IsGoodHop, IsGoodVerdict, IsGoodFin
 use Rattle.nk_plan.specs.Plan.{hop_at, pieces_at}
 use Rattle.nk_plan.specs.Parent.{ParentState}
 use Rattle.nk_plan.specs.Enabled.{body_enabled}
-use Rattle.nk_half_laws.specs.Settled.{ChildRestLaw, ChildQueueLaw}
+use Rattle.nk_half_laws.specs.Growth.{GrowthLaw, ToldLaw}
+use Rattle.nk_half_laws.specs.Settled.{ChildRestLaw, ChildQueueLaw, ParentEndLaw, SuspendsAgreeLaw}
 use Rattle.nk_plan.specs.declared.plan.Hop.TheVariants as hop
 use Rattle.nk_plan.specs.declared.plan.Verdict.TheVariants as verdict
 use Rattle.nk_plan.specs.declared.plan.Act.TheVariants as act
@@ -45,11 +46,15 @@ ActOk (Some control) = (s : Status) → control.act ≡ act.Break s → is_failu
 abbrev pub PlanOk : ChannelPlan → Type 0
 PlanOk c = ((f : ℕ) → HopOk (hop_at c f)) × ((i : ℕ) → ActOk (slice_get c.controls i))
 
--- the plan is accepted; and what is known of every child by itself
-pub record Rests (c : ChannelPlan) : Type 0 where
+-- the plan is accepted; and what is known of each half by itself
+pub record Known (c : ChannelPlan) : Type 0 where
   pub accepted : Accepted c
   pub rest : ChildRestLaw
   pub queue : ChildQueueLaw
+  pub growth : GrowthLaw
+  pub told : ToldLaw
+  pub ended : ParentEndLaw
+  pub suspends : SuspendsAgreeLaw
 
 -- reactions end a load by failures alone, and name data callbacks from 1 on
 abbrev pub EndsByFailure : List Reaction → Type 0

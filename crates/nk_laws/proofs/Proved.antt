@@ -11,6 +11,7 @@ use Rattle.nk_plan.specs.declared.step.Step.{Step}
 use Rattle.nk_plan.specs.declared.step.ChildStep.{ChildStep}
 use Rattle.nk_plan.specs.declared.ends.Ending.{Ending}
 use Rattle.nk_plan.specs.declared.ends.Ending.TheVariants as ending
+use Rattle.nk_plan.specs.Accepted.{Accepted}
 use Rattle.nk_plan.specs.Trace.{SeqTrace}
 use Rattle.nk_plan.specs.Journal.{first, final, cut, opening, ups_taken, mains_sent, backs_sent}
 use Rattle.nk_plan.specs.Lanes.{MainsStart, BacksStart}
@@ -18,14 +19,15 @@ use Rattle.nk_plan.specs.Child.{ChildState, child_after}
 use Rattle.nk_plan.specs.Channel.{Channel, channel_after}
 use Rattle.nk_plan.specs.Run.{state_of, trace_of, Down}
 use Rattle.nk_plan.specs.Ending.{ending_by, ending_of, ends_in_stop, waits_to_stop}
-use Rattle.nk_half_laws.specs.Settled.{ChildRestLaw, ChildQueueLaw, forced_by}
+use Rattle.nk_half_laws.specs.Growth.{GrowthLaw}
+use Rattle.nk_half_laws.specs.Settled.{ChildQueueLaw, forced_by}
 use Rattle.nk_laws.specs.Laws.{LanesLaw, MergeLaw, RunLaw, HopLaw, FailureLaw, CountsLaw, BoundsLaw, SendsLaw, StateLaw, OrderRunsLaw, RunOrderLaw, EndingToldLaw, EndingLaw, BrokenLaw, CalmLaw, ClosedLaw}
-use Rattle.nk_laws.proofs.Premises.{plan_ok, ends_by_failure}
+use Rattle.nk_laws.proofs.Premises.{Known, plan_ok, ends_by_failure}
 use Rattle.nk_laws.proofs.Sent.{lane_law_of}
 use Rattle.nk_laws.proofs.ParentLaw.{lane_law}
 use Rattle.nk_laws.proofs.Merge.{TakesDown, merge}
 use Rattle.nk_laws.proofs.StartHop.{start_hop}
-use Rattle.nk_laws.proofs.Tells.{child_tells}
+use Rattle.nk_laws.proofs.Tells.{child_tells, child_named, final_is}
 use Rattle.nk_laws.proofs.Bounds.{child_bounded}
 use Rattle.nk_laws.proofs.Tally.{child_tally, journal_ending}
 use Rattle.nk_laws.proofs.Replay.{child_replayed, determined}
@@ -67,8 +69,8 @@ hops c p j n a d o =
     let e : (child_after c steps).journal ≡ j = d.child_run.1 in
     subst (λ t. MainsStart (final t) (mains_sent p) × BacksStart (final t) (backs_sent p)) e (start_hop c p n steps (plan_ok c a) d.parent_run (down_of c p j n d) (ap opening e ∙ o))
 
-pub failures : FailureLaw
-failures c steps = let t = child_tells c steps in (sym t.first_is, t.drops, sym t.final_is)
+pub failures : GrowthLaw → FailureLaw
+failures growth c steps = let t = child_tells c steps in (sym t.first_is, t.drops, sym (final_is growth c steps))
 
 pub counts : CountsLaw
 counts c steps = let t = child_tally c steps in (sym t.open_is, t.suspends_is, sym t.finished_is)
@@ -88,8 +90,8 @@ bounds queue c steps a =
     let f : (child_after c steps).queue.forced ≡ forced_by (child_after c steps).running = l.1 in
     (l.0, (let k = forced_once_at_most (child_after c steps).running in omega arith), λ t. child_bounded c steps (target_number t))
 
-pub sends : SendsLaw
-sends c steps = sym (child_tells c steps).sends_are
+pub sends : GrowthLaw → SendsLaw
+sends growth c steps = sym (child_named growth c steps).sends
 
 pub states : StateLaw
 states c = let d = determined c in (d.0, d.1)
@@ -117,12 +119,12 @@ unopened : (b : Bool) (x : Ending) → b ≡ true → (if b then ending.Unopened
 unopened true x e = refl
 unopened false x e = cc
 
-pub endings : ChildRestLaw → ChildQueueLaw → EndingLaw
-endings rest queue c steps a q g =
+pub endings : ((c : ChannelPlan) → Accepted c → Known c) → EndingLaw
+endings known c steps a q g =
     let g1 : journal_ending c (channel_after c steps).child ≡ ending.Going = sym (told c steps) ∙ g in
     by_bool c.closed
     (λ e. let x : journal_ending c (channel_after c steps).child ≡ ending.Unopened = unopened c.closed _ e in let y : ending.Unopened ≡ ending.Going = sym x ∙ g1 in absurd (cc))
-    (λ e. (ending_told c steps (plan_ok c a)).3 (record { accepted = a; rest = rest; queue = queue }) e q g1)
+    (λ e. (ending_told c steps (plan_ok c a)).3 (known c a) e q g1)
 
 pub broken : BrokenLaw
 broken c p j n a d b =
@@ -133,8 +135,8 @@ broken c p j n a d b =
 
 -- Calm plans
 
-pub calm : ChildRestLaw → ChildQueueLaw → CalmLaw
-calm rest queue c p j n a i r =
+pub calm : ((c : ChannelPlan) → Accepted c → Known c) → CalmLaw
+calm known c p j n a i r =
     let o = run_is_order c p j n r in
     let w : Channel = channel_after c o.0 in
     let k : Joined c w = joined c o.0 in
@@ -147,7 +149,7 @@ calm rest queue c p j n a i r =
       λ s. (let y : ending.Unopened ≡ ending.Suspended = sym x ∙ (sym same ∙ s) in absurd (cc)),
     ))
     (λ h.
-    let l = calm_law_holds c o.0 (plan_ok c a) (record { accepted = a; rest = rest; queue = queue }) i (ends_by_failure c a) h in (
+    let l = calm_law_holds c o.0 (plan_ok c a) (known c a) i (ends_by_failure c a) h in (
       λ s. ap (λ (y : ChildState). y.trace) e ∙ l.0 (sym same ∙ s),
       λ s. l.1 (sym same ∙ s),
     ))

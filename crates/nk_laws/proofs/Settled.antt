@@ -9,7 +9,7 @@ use Rattle.nk_base.specs.declared.message.BackMsg.{BackMsg}
 use Rattle.nk_plan.specs.declared.plan.ChannelPlan.{ChannelPlan}
 use Rattle.nk_plan.specs.declared.plan.Control.{Control}
 use Rattle.nk_laws.proofs.Tally.{journal_ending}
-use Rattle.nk_laws.proofs.Premises.{PlanOk, Rests, WantsCredit}
+use Rattle.nk_laws.proofs.Premises.{PlanOk, Known, WantsCredit}
 use Rattle.nk_plan.specs.Plan.{pieces_at}
 use Rattle.nk_plan.specs.Trace.{SeqTrace}
 use Rattle.nk_plan.specs.Journal.{first, final, cut, mains_taken, backs_taken, mains_sent, backs_sent, ups_taken, is_suspend, is_resume, is_finish, count_of, has_open}
@@ -60,7 +60,7 @@ hold_empty c w j q i =
 no_credit : (w r b : ℕ) (cr : ℤ) → 1 ≤ w → pos (w + r) ≤ℤ (cr +ℤ pos b) → r ≡ b → int_lt (pos 0) cr ≡ false → ⊥
 no_credit w r b cr l h e n = grind (arith, ints)
 
-credit_still : (c : ChannelPlan) (steps : List Step) → PlanOk c → Rests c → IsSettled c (channel_after c steps) → (channel_after c steps).child.suspends ≡ 0
+credit_still : (c : ChannelPlan) (steps : List Step) → PlanOk c → Known c → IsSettled c (channel_after c steps) → (channel_after c steps).child.suspends ≡ 0
     → WantsCredit c (channel_after c steps).parent → (channel_after c steps).child.stopped ≡ true
 credit_still c steps v r q z (body, wants) =
     let w = channel_after c steps in
@@ -107,7 +107,7 @@ credit_still c steps v r q z (body, wants) =
 
 -- A channel that is still has stopped or is suspended
 
-stopped_or_not : (c : ChannelPlan) (steps : List Step) → PlanOk c → Rests c → c.closed ≡ false → IsSettled c (channel_after c steps)
+stopped_or_not : (c : ChannelPlan) (steps : List Step) → PlanOk c → Known c → c.closed ≡ false → IsSettled c (channel_after c steps)
     → ((channel_after c steps).child.stopped ≡ true) ⊎ (0 < (channel_after c steps).child.suspends)
 stopped_or_not c steps v r n q = elim (zero_or (channel_after c steps).child.suspends) [
   | inr x ↦ inr x
@@ -143,7 +143,7 @@ opened_now true opened due e h = cc
 opened_now false true due e h = (refl, h)
 opened_now false false due e h = cc
 
-not_going : (c : ChannelPlan) (steps : List Step) → PlanOk c → Rests c → c.closed ≡ false → IsSettled c (channel_after c steps) → state_ending c (channel_after c steps).child ≡ Going → ⊥
+not_going : (c : ChannelPlan) (steps : List Step) → PlanOk c → Known c → c.closed ≡ false → IsSettled c (channel_after c steps) → state_ending c (channel_after c steps).child ≡ Going → ⊥
 not_going c steps v r n q g =
     let s = (channel_after c steps).child in
     let g1 : ending_parts c.closed s.stopped s.opened (nat_lt 0 s.suspends) (is_some s.running) (is_due s (slice_get c.controls s.next)) ≡ Going = sym (is_ending c s) ∙ g in
@@ -181,7 +181,7 @@ pub ending_told : (c : ChannelPlan) (steps : List Step) → PlanOk c →
     (journal_ending c (channel_after c steps).child ≡ state_ending c (channel_after c steps).child)
     × ((channel_after c steps).child.stopped ≡ ends_in_stop (channel_after c steps).child.trace)
     × ((channel_after c steps).child.suspends + count_of is_resume (channel_after c steps).child.journal ≡ count_of is_suspend (channel_after c steps).child.journal)
-    × (Rests c → c.closed ≡ false → IsSettled c (channel_after c steps) → journal_ending c (channel_after c steps).child ≡ Going → ⊥)
+    × (Known c → c.closed ≡ false → IsSettled c (channel_after c steps) → journal_ending c (channel_after c steps).child ≡ Going → ⊥)
 ending_told c steps v =
     let w = channel_after c steps in
     let s = w.child in

@@ -5,9 +5,9 @@ use Rattle.std.proofs.lemmas.Bool.{lt-ltb}
 use Rattle.nk_base.specs.declared.message.MainMsg.{MainMsg}
 use Rattle.nk_base.specs.declared.message.BackMsg.{BackMsg}
 use Rattle.nk_plan.specs.declared.plan.ChannelPlan.{ChannelPlan}
-use Rattle.nk_laws.proofs.Premises.{PlanOk, Rests}
+use Rattle.nk_laws.proofs.Premises.{PlanOk, Known}
 use Rattle.nk_base.specs.Queue.{has_some}
-use Rattle.nk_plan.specs.Parent.{ParentState}
+use Rattle.nk_plan.specs.Parent.{ParentState, parent_after}
 use Rattle.nk_plan.specs.Journal.{mains_sent, backs_sent, ups_taken, mains_taken, backs_taken}
 use Rattle.nk_laws.proofs.Sent.{SentLaw}
 use Rattle.nk_plan.specs.Lanes.{IsPrefix, Among}
@@ -24,10 +24,9 @@ use Rattle.nk_laws.proofs.Merge.{run_inv, start_inv, fed, prefix_of_take}
 use Rattle.nk_laws.proofs.Taking.{Within, main_events, Due, Whole, Cut, Inv, hold_is, mains_is, backs_is, whole_unbroken}
 use Rattle.nk_laws.specs.Moves.{Joined}
 use Rattle.nk_laws.proofs.Joined.{joined, rest_after}
-use Rattle.nk_half_laws.specs.Settled.{IsSettledChild, IsIdle}
-use Rattle.nk_laws.proofs.Told.{IsTold, child_told, suspends_after}
-use Rattle.nk_laws.proofs.Heard.{Hears, parent_hears}
-use Rattle.nk_base.specs.declared.message.UpMsg.{UpMsg}
+use Rattle.nk_half_laws.specs.Settled.{IsSettledChild, IsIdle, has_end}
+use Rattle.nk_laws.proofs.Told.{IsTold, child_told}
+use Rattle.nk_laws.proofs.Heard.{Hears, parent_hears, end_heard}
 use Rattle.nk_plan.specs.Plan.{pieces_at}
 use Rattle.nk_plan.specs.declared.step.Phase.{Phase}
 use Rattle.nk_plan.specs.declared.step.Phase.TheVariants.{Closed, Ready, Asking, Follow, Body, Done}
@@ -130,7 +129,7 @@ child_settled c w still child.Release o = still Release tt
 child_settled c w still (child.Begin t) o = still (Begin t) o
 child_settled c w still (child.Finish t) o = still (Finish t) o
 
-pub at_rest : (c : ChannelPlan) (steps : List Step) → Rests c → IsSettled c (channel_after c steps)
+pub at_rest : (c : ChannelPlan) (steps : List Step) → Known c → IsSettled c (channel_after c steps)
     → IsIdle (channel_after c steps).child × ((channel_after c steps).child.suspends ≡ 0 → (channel_after c steps).child.queue.waiting ≡ [])
 at_rest c steps r still =
     let w = channel_after c steps in
@@ -141,7 +140,7 @@ at_rest c steps r still =
     (idle, known.1 idle)
 
 -- the child's part: where nothing is enabled, an opened child has shown its stop, or is suspended, or its parent has not sent all
-pub child_still : (c : ChannelPlan) (steps : List Step) → PlanOk c → Rests c → IsSettled c (channel_after c steps)
+pub child_still : (c : ChannelPlan) (steps : List Step) → PlanOk c → Known c → IsSettled c (channel_after c steps)
     → ((channel_after c steps).child.stopped ≡ true) ⊎ ((0 < (channel_after c steps).child.suspends) ⊎ (sent_all (channel_after c steps) ≡ false))
 child_still c steps v r still =
     let w = channel_after c steps in
@@ -160,9 +159,6 @@ pub prefix_all : {A : Type 0} (xs ys : List A) → IsPrefix xs ys → drop (leng
 prefix_all xs ys (r, e) d =
     let f : r ≡ [] = sym (rest_after xs r ys e) ∙ d in
     sym (append_nil xs) ∙ (ap (λ t. xs ++ t) (sym f) ∙ e)
-
-none_above : (n : ℕ) → n ≡ 0 → nat_lt 0 n ≡ false
-none_above n e = rw e refl
 
 -- where it may still be stuck: waiting for a verdict, or for credit
 abbrev pub Stuck : ChannelPlan → ParentState → Type 0
@@ -186,15 +182,19 @@ phase_still c p Body stopped sent e n a b d = inr (inr (e, n))
 phase_still c p Done stopped sent e n a b d = elim (b refl) [ inl x ↦ inl x | inr x ↦ absurd (cc) ]
 
 -- where nothing is enabled, an opened channel has stopped, is suspended, or its parent waits for a verdict or for credit
-pub channel_still : (c : ChannelPlan) (steps : List Step) → PlanOk c → Rests c → c.closed ≡ false → IsSettled c (channel_after c steps)
+pub channel_still : (c : ChannelPlan) (steps : List Step) → PlanOk c → Known c → c.closed ≡ false → IsSettled c (channel_after c steps)
     → ((channel_after c steps).child.stopped ≡ true) ⊎ ((0 < (channel_after c steps).child.suspends) ⊎ Stuck c (channel_after c steps).parent)
 channel_still c steps v r not_closed still =
     let w = channel_after c steps in
     let s = w.child in
     let p = w.parent in
     let j : Joined c w = joined c steps in
-    let told : IsTold s = subst (λ (x : ChildState). IsTold x) j.child_is (child_told c j.child_steps) in
+    let told : IsTold s = subst (λ (x : ChildState). IsTold x) j.child_is (child_told r.growth r.told c j.child_steps) in
     let heard : Hears p = subst (λ (x : ParentState). Hears x) j.parent_is (parent_hears c j.parent_steps) in
+    let Agree : ParentState → ChildState → Type 0 = λ y x. ups_taken y.journal ≡ x.sent → (y.suspended ≡ true) ↔ (0 < x.suspends) in
+    let agree : Agree p s =
+    subst (λ y. Agree y s) j.parent_is (subst (λ x. Agree (parent_after c j.parent_steps) x) j.child_is (r.suspends c j.parent_steps j.child_steps)) in
+    let over : p.phase ≡ Done → has_end p.journal ≡ true = subst (λ (y : ParentState). y.phase ≡ Done → has_end y.journal ≡ true) j.parent_is (r.ended c j.parent_steps).0 in
     let none : up_lane w ≡ [] = none_has (up_lane w) (still Up tt) in
     let all : ups_taken p.journal ≡ s.sent = prefix_all (ups_taken p.journal) s.sent j.ups none in
     let opened : s.opened ≡ true = opened_now c.closed s.opened (is_due s (slice_get c.controls s.next)) not_closed (still Act tt) in
@@ -207,10 +207,10 @@ channel_still c steps v r not_closed still =
             elim (zero_or s.suspends) [
               | inr z ↦ inr (inl z)
               | inl z ↦
-                  let flag : p.suspended ≡ false = heard.flag_heard ∙ (ap (λ (u : List UpMsg). suspends_after false u) all ∙ (told.suspend_said ∙ none_above s.suspends z)) in
+                  let flag : p.suspended ≡ false = by_bool p.suspended (λ y. let l : 0 < s.suspends = (agree all).0 y in absurd (omega arith)) (λ y. y) in
                   let phase : phase_enabled c p p.phase ≡ false = and_right p.suspended (phase_enabled c p p.phase) flag (still Fetch tt) in
                   elim (phase_still c p p.phase s.stopped (sent_all w) refl phase (λ e. heard.closed_heard e open_heard)
-                  (λ e. elim (heard.done_heard e) [ inl q ↦ inr q | inr q ↦ inl (told.deleting_said (rw all at q)) ]) x) [
+                  (λ e. elim (end_heard p.journal (over e)) [ inl q ↦ inr q | inr q ↦ inl (told.deleting_said (rw all at q)) ]) x) [
                     | inl q ↦ inl q
                     | inr q ↦ inr (inr q)
                   ]

@@ -3,7 +3,8 @@
 
 ghost use Rattle.nk_laws.specs.Laws.{LanesLaw, JoinedLaw, MovesLaw, MergeLaw, RunLaw, HopLaw, FailureLaw, CountsLaw, BoundsLaw, SendsLaw, StateLaw, OrderRunsLaw, RunOrderLaw, GreedyLaw, KeepLaw, StuckLaw, EntriesLaw, EndingToldLaw, EndingLaw, BrokenLaw, CalmLaw, ClosedLaw};
 
-use nk_half_laws::settled::{child_queue_law, child_rest_law};
+use nk_half_laws::growth::{growth_law, told_law};
+use nk_half_laws::settled::{child_queue_law, child_rest_law, parent_end_law, suspend_law};
 
 /// What a parent sends obeys the lane law, whatever messages come from the page's side.
 pub fn lanes_law()
@@ -35,6 +36,7 @@ pub fn journal_law()
     ensures sends { SendsLaw }
 {
     child_queue_law();
+    growth_law();
 }
 
 /// The state that a run leaves is a function of its journal, on each side.
@@ -55,7 +57,9 @@ pub fn walk_law()
     ensures keep { KeepLaw }
     ensures stuck { StuckLaw }
     ensures entries { EntriesLaw }
-{}
+{
+    growth_law();
+}
 
 /// Where no step that a drain tries is enabled, the ending is not `Going`. Once a channel is
 /// broken, its stop was shown or waits.
@@ -64,8 +68,12 @@ pub fn ending_law()
     ensures ends { EndingLaw }
     ensures broken { BrokenLaw }
 {
+    growth_law();
+    told_law();
     child_rest_law();
     child_queue_law();
+    parent_end_law();
+    suspend_law();
 }
 
 /// What a run of a calm plan was shown, once it has stopped, is the plan's calm trace, and it is
@@ -74,6 +82,10 @@ pub fn calm_law()
     ensures calm { CalmLaw }
     ensures closed { ClosedLaw }
 {
+    growth_law();
+    told_law();
     child_rest_law();
     child_queue_law();
+    parent_end_law();
+    suspend_law();
 }
