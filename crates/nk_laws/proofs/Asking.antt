@@ -21,14 +21,14 @@ use Rattle.nk_plan.specs.Plan.{hop_at, hop_code}
 use Rattle.nk_plan.specs.declared.step.Phase.{Phase}
 use Rattle.nk_plan.specs.declared.step.Phase.TheVariants.{Closed, Ready, Asking, Follow, Body, Done}
 use Rattle.nk_laws.proofs.ParentLaw.{ups-append, Law, Keeps, parent_keeps}
-use Rattle.nk_laws.proofs.Tools.{keeps_if, append_nil, among_more, among_split}
+use Rattle.nk_laws.proofs.Tools.{keeps_if, append_nil, among_more, among_split, none_has}
 use Rattle.nk_plan.specs.declared.event.ChildEvent.TheVariants.{Redirect1 as Redirect1Event}
 use Rattle.nk_laws.proofs.Merge.{main_events-append}
 use Rattle.nk_laws.proofs.Taking.{main_events, whole_unbroken}
 use Rattle.nk_laws.specs.Moves.{Joined}
 use Rattle.nk_laws.proofs.Joined.{Adds, fetch_step_adds, up_journal, joined}
 use Rattle.nk_laws.proofs.Questions.{asked, asked-append, Asks, asks_more, IsQuizzed, child_quizzed}
-use Rattle.nk_laws.proofs.Still.{none_has, zero_or, unless, prefix_all, cut_stopped, channel_inv, at_rest, channel_still}
+use Rattle.nk_laws.proofs.Still.{zero_or, unless, prefix_all, cut_stopped, channel_inv, at_rest, channel_still}
 use Rattle.nk_base.specs.Queue.{has_some}
 use Rattle.std.proofs.lemmas.Bool.{eq-eqb}
 use Rattle.nk_base.specs.declared.message.UpMsg.TheVariants as up

@@ -146,7 +146,7 @@ abbrev pub child_block_at : ChannelPlan → ChildStep → ChildState → ChildBl
 child_block_at c x s =
     child_block (drop (length s.journal) (child_step c x s).journal) (drop (length s.sent) (child_step c x s).sent)
 
-added : {A : Type 0} (xs ys zs : List A) → zs ≡ xs ++ ys → drop (length xs) zs ≡ ys
+pub added : {A : Type 0} (xs ys zs : List A) → zs ≡ xs ++ ys → drop (length xs) zs ≡ ys
 added xs ys zs e = rest_after xs ys zs (sym e)
 
 pub parent_block_is : (c : ChannelPlan) (x : ParentStep) (s : ParentState) (e : ParentEnters x s (parent_step c x s)) → parent_block_at c x s ≡ parent_block e.entries

@@ -54,9 +54,6 @@ set_at p i v k n a b = elim (eqb_tells k i) [
   | inr x ↦ rw (get_or-set_other p i k v 0 x.1) b
 ]
 
-more_at : (n m : ℕ) (p : List ℕ) → n ≤ m → AtMost n p → AtMost m p
-more_at n m p l h k = let a : slice_index p k ≤ n = h k in omega arith
-
 raised_at : (n : ℕ) (p : List ℕ) (t : Target) → AtMost n p → AtMost (n + 1) (raised p t)
 raised_at n p t h k = let a : slice_index p (target_number t) ≤ n = h (target_number t) in let b : slice_index p k ≤ n = h k in set_at p (target_number t) (slice_index p (target_number t) + 1) k (n + 1) (omega arith) (omega arith)
 
@@ -74,9 +71,6 @@ Held n q = Below n q.posted ⊎ (AtMost n q.posted × (is_busy q ≡ true))
 held_at_most : (n : ℕ) (q : Queue ChildEvent) → Held n q → AtMost n q.posted
 held_at_most n q (inl b) k = let a : slice_index q.posted k < n = b k in omega arith
 held_at_most n q (inr a) k = a.0 k
-
-below_next : (n : ℕ) (p : List ℕ) → AtMost n p → Below (n + 1) p
-below_next n p h k = let a : slice_index p k ≤ n = h k in omega arith
 
 waits_then : (w : List ChildEvent) (e : ChildEvent) → has_some (w ++ e ∷ []) ≡ true
 waits_then [] e = refl

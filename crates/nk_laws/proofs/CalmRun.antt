@@ -16,7 +16,7 @@ use Rattle.nk_plan.specs.declared.step.Step.{Step}
 use Rattle.nk_laws.proofs.Tools.{append_nil, keeps_if}
 use Rattle.nk_laws.proofs.ParentLaw.{lane_law}
 use Rattle.nk_laws.proofs.Order.{Around, Holds, strip, AtHop, InBody, AtEnd, Legal}
-use Rattle.nk_laws.proofs.Merge.{run_inv, start_inv, fed, prefix_of_take, within_before}
+use Rattle.nk_laws.proofs.Merge.{run_inv, start_inv, fed, prefix_of_take, within_before, no_kept}
 use Rattle.nk_laws.proofs.Taking.{Within, main_events, Whole, Cut, Inv, hold_is, backs_is, broken_is}
 use Rattle.nk_laws.specs.Moves.{Joined}
 use Rattle.nk_laws.proofs.Joined.{joined, rest_after, main_says, back_says}
@@ -24,14 +24,12 @@ use Rattle.nk_laws.proofs.Flushes.{Flushes}
 use Rattle.nk_base.specs.declared.status.Status.{Status}
 use Rattle.nk_plan.specs.declared.event.ChildEvent.TheVariants.{Start as StartEvent, Bytes as BytesEvent, Stop as StopEvent, Redirect1 as Redirect1Event, Redirect3 as Redirect3Event, Cancel as CancelEvent}
 use Rattle.nk_plan.specs.Calm.{IsCalm}
-use Rattle.nk_plan.specs.declared.plan.StartLane.{StartLane}
 use Rattle.nk_laws.proofs.Course.{OkOrFails, append_bytes, acted_calm, verdict_calm, finished_calm, begun_calm, release_calm, main_calm, back_calm}
 use Rattle.nk_laws.proofs.CourseState.{Quiet, Calmly, RightMain, RightMains, RightBack, RightBacks, events_bytes, backs_bytes, back_bytes}
 use Rattle.nk_laws.proofs.Grows.{Grows, NoLane, plain_grows, main_grows, back_grows, noted_grows, step_grows, Extends, backs-append}
 use Rattle.nk_plan.specs.declared.step.ChildStep.TheVariants as child
 use Rattle.nk_base.specs.declared.message.BackMsg.TheVariants as back
 use Rattle.nk_plan.specs.declared.journal.ChildEntry.TheVariants as entry
-use Rattle.nk_plan.specs.declared.plan.StartLane.TheVariants as lane
 
 -- A calm child along its run: after the stop no piece is left anywhere
 
@@ -162,13 +160,9 @@ calm_step c E T G md bd (child.Finish t) s ef cp ev rm rb l i w k = calm_plain c
 not_cut : (c : ChannelPlan) (md : List MainMsg) (s : ChildState) → s.broken ≡ false → Cut c md s → ⊥
 not_cut c md s e i = let x : s.broken ≡ true = broken_is c i.around _ _ s i.keeps ∙ i.broken in cc
 
-first_none : (l : StartLane) → (new_hold l).kept ≡ []
-first_none lane.Main = refl
-first_none lane.Back = refl
-
 start_calm_run : (c : ChannelPlan) (E : Status) (T : Status → Type 0) (G : Type 0) → CalmRun c E T G (new_child c)
 start_calm_run c E T G =
-    let e : (new_hold c.start).kept ≡ [] = first_none c.start in
+    let e : (new_hold c.start).kept ≡ [] = no_kept c.start in
     record {
       right_waiting = tt;
       cancels_first = tt;

@@ -21,7 +21,7 @@ use Rattle.nk_plan.specs.declared.event.ChildEvent.{ChildEvent}
 use Rattle.nk_plan.specs.declared.event.ChildEvent.TheVariants.{Start, Bytes, Stop, Redirect1, Redirect3, Cancel}
 use Rattle.nk_plan.specs.Event.{class_of}
 use Rattle.nk_plan.specs.Child.{ChildState, run_bytes, run_event, offer_event, offer_all, with_entry, call_suspend, call_resume, call_cancel, refusal, call_retarget, is_empty, call_break, perform_call, step_verdict, flush_with, step_begin, runs_on, react, react_all, bytes_failure, prepend_cancel, fail_data, finish_event, step_finish}
-use Rattle.nk_laws.proofs.Tools.{keeps_if, append_nil}
+use Rattle.nk_laws.proofs.Tools.{keeps_if, append_nil, none_has}
 use Rattle.nk_base.specs.declared.status.Target.TheVariants as target
 use Rattle.nk_base.specs.declared.message.Entry.TheVariants as shown
 use Rattle.nk_plan.specs.declared.plan.Reaction.TheVariants as reaction
@@ -42,10 +42,6 @@ opened_by h false = refl
 
 merged_stays : (x : Bool) (kept : Option Status) (st : Status) → (x ≡ true → kept ≡ None → ⊥) → x ≡ true → merged kept st ≡ None → ⊥
 merged_stays x kept st h e n = h e (merged_none kept st n)
-
-or_first : {A B : Type 0} (C : Type 0) → A ⊎ B → (A → A ⊎ C) → (B → A ⊎ C) → A ⊎ C
-or_first C (inl a) f g = f a
-or_first C (inr b) f g = g b
 
 start_runs : (c : ChannelPlan) (a : Around) (pend w : List ChildEvent) (t : Target) (code : ℕ) (st : Status) (s : ChildState)
     → Holds c a pend (Start code st ∷ w) s → Holds c a pend w (run_event c t (Start code st) s)
@@ -288,10 +284,6 @@ idle_empty false false true e g h = cc
 idle_empty false false false true g h = cc
 idle_empty false false false false g h = refl
 
-pub none_waits : {E : Type 0} (w : List E) → has_some w ≡ false → w ≡ []
-none_waits [] h = refl
-none_waits (e ∷ w) h = cc
-
 fits_then : (c : ChannelPlan) (f : ℕ) (x : Bool) (pl : Place) (w : List ChildEvent) (e : ChildEvent) (trace : List Entry) (kept : Option Status) (hop : ℕ) (stopped : Bool) (running : Option (Target × ChildEvent))
     → NotCancel e → Fits c f x pl w trace kept hop stopped running → Fits c f x pl (w ++ e ∷ []) trace kept hop stopped running
 fits_then c f x (AtHop h) w e trace kept hop stopped running n k = k
@@ -317,7 +309,7 @@ offered_keeps : (c : ChannelPlan) (a : Around) (pend : List ChildEvent) (here : 
 offered_keeps c a pend here e s n k =
     keeps_if (Keeps c a pend) (runs_now class_of s.queue e here) (run_event c here e (record s { queue = running_now s.queue here })) (record s { queue = appended class_of s.queue e })
     (λ r.
-    let w0 : s.queue.waiting ≡ [] = none_waits s.queue.waiting
+    let w0 : s.queue.waiting ≡ [] = none_has s.queue.waiting
     (idle_empty (nat_lt 0 s.queue.forced) s.queue.suspended (is_some s.queue.flushing) (has_some s.queue.waiting) (same_target (target_in s.queue.data_target (class_of e)) here) r) in
     let s1 : ChildState = record s { queue = running_now s.queue here } in
     let first : Holds c a (e ∷ pend) [] s = subst (λ w. Holds c a (e ∷ pend) w s) w0 k in
@@ -367,10 +359,6 @@ cancelled_keeps c a pend w s st e (AtEnd, l, n, (f, g, d, m, r), j, h, b, z) = l
 pub or_false : (a b : Bool) → (a || b) ≡ false → a ≡ false
 or_false true b h = h
 or_false false b h = refl
-
-pub or_false_right : (a b : Bool) → (a || b) ≡ false → b ≡ false
-or_false_right true b h = cc
-or_false_right false b h = h
 
 retarget_keeps : (c : ChannelPlan) (a : Around) (pend : List ChildEvent) (o : Option RetargetError) (n : ℕ) (s : ChildState) → Keeps c a pend s → Keeps c a pend (call_retarget o n s)
 retarget_keeps c a pend (Some e) n s k = same_entry c a pend _ s (child.NoRetarget e) refl refl refl refl refl k
@@ -447,9 +435,6 @@ cancel_in_front c a pend w s u at p st st' e (AtHop o, l, n, f, j, h, b, z) = (A
 cancel_in_front c a pend w s u at p st st' e (InBody o ps, l, n, f, j, h, b, z) = (InBody o ps, l, n, f, j, h, b, z)
 cancel_in_front c a pend w s u at p st st' e (AtEnd, l, n, (f, g, d, m, r), j, h, b, z) = absurd (rw e at r)
 
-finish_noted : Target → ChildState → ChildState
-finish_noted t s = record s { running = None; finished = suc s.finished; journal = s.journal ++ child.Finish t ∷ [] }
-
 finish_entry : (c : ChannelPlan) (a : Around) (pend w : List ChildEvent) (t : Target) (s : ChildState) → Holds c a pend w s
     → Holds c a pend w (record s { running = None; finished = suc s.finished; journal = s.journal ++ child.Finish t ∷ [] })
 finish_entry c a pend w t s k = same_entry c a pend w (record s { running = None }) (child.Finish t) refl refl refl refl refl (idle_keeps c a pend w s k)
@@ -497,7 +482,7 @@ Broken c a s = (f : ℕ) × (x : Bool) × Keeps c (record { final = f; cut = x; 
 fails : (st : Status) → is_failure st ≡ true → (P : Type 0) → is_failure st ≡ false → P
 fails st e P n = let no : true ≡ false = sym e ∙ n in cc
 
-merged_fails : (kept : Option Status) (st : Status) → is_failure st ≡ true → merged kept st ≡ None → ⊥
+pub merged_fails : (kept : Option Status) (st : Status) → is_failure st ≡ true → merged kept st ≡ None → ⊥
 merged_fails None st e n = fails st e ⊥ (merged_good st n)
 merged_fails (Some q) st e n = cc
 

@@ -12,6 +12,7 @@ use Rattle.nk_plan.specs.declared.plan.Reaction.{Reaction}
 use Rattle.nk_plan.specs.declared.plan.Control.{Control}
 use Rattle.nk_base.specs.Status.{ok, is_failure, kept_status, merged}
 use Rattle.nk_plan.specs.Plan.{stop_trailers}
+use Rattle.nk_laws.proofs.Taking.{no_cancel_append}
 use Rattle.nk_laws.proofs.Premises.{EndsByFailure}
 use Rattle.nk_base.specs.Queue.{Taken, Event, Over, Ended, same_target, is_target, target_number, target_in, runs_now, has_some, running_now, appended, completed, taken}
 use Rattle.nk_plan.specs.declared.plan.StartLane.{StartLane}
@@ -19,11 +20,11 @@ use Rattle.nk_plan.specs.Child.{main_events_of, note_main, step_main, back_hop, 
 use Rattle.nk_plan.specs.declared.event.ChildEvent.{ChildEvent}
 use Rattle.nk_plan.specs.declared.event.ChildEvent.TheVariants.{Start, Bytes, Stop, Redirect1, Redirect3, Cancel}
 use Rattle.nk_plan.specs.Event.{class_of}
-use Rattle.nk_laws.proofs.Tools.{keeps_if, by_bool}
+use Rattle.nk_laws.proofs.Tools.{keeps_if, by_bool, none_has}
 use Rattle.std.proofs.lemmas.Bool.{eqb-true}
 use Rattle.std.proofs.lemmas.Bool.Decides.{eqb_tells}
 use Rattle.nk_plan.specs.Calm.{NeverSuspends, start_reaction}
-use Rattle.nk_laws.proofs.ChildLaw.{none_waits, idle_empty}
+use Rattle.nk_laws.proofs.ChildLaw.{idle_empty}
 use Rattle.nk_laws.proofs.Order.{NotCancel, NoCancel, CancelsFirst, first_then_event, first_if_none}
 use Rattle.nk_laws.proofs.Flushes.{Flushes, offered_flushes, runs_alone, runs_elsewhere}
 use Rattle.nk_laws.proofs.Tally.{has_stop, stop_then, or_false, or_true}
@@ -167,10 +168,6 @@ run_calm c E T G t (Redirect1 i) s es total ef idle nc nf nb k = popped_calm c E
 run_calm c E T G t (Redirect3 i) s es total ef idle nc nf nb k = popped_calm c E T G (Redirect3 i) s es total refl k
 run_calm c E T G t (Cancel st) s es total ef idle nc nf nb k = absurd nc
 
--- the parts that rows which show nothing leave as they are
-abbrev SumsTo : ChildState → List ChildEvent → ℕ → Type 0
-SumsTo s pend total = s.data_begun + (events_bytes s.queue.waiting + (backs_bytes s.hold.kept + events_bytes pend)) ≡ total
-
 appended_size : (xs : List ChildEvent) (e : ChildEvent) → events_bytes (xs ++ e ∷ []) ≡ events_bytes xs + (event_bytes e + 0)
 appended_size [] e = sym (zero-add (event_bytes e + 0))
 appended_size (x ∷ xs) e = let h : events_bytes (xs ++ e ∷ []) ≡ events_bytes xs + (event_bytes e + 0) = appended_size xs e in omega arith
@@ -218,7 +215,7 @@ offered_calm c E T G here e s es total ef nc l nb k =
     keeps_if (λ (x : ChildState). Calmly c E T G x es total) (runs_now class_of s.queue e here) (run_event c here e s1) (record s { queue = appended class_of s.queue e })
     (λ r.
     let alone : (is_some s.queue.flushing ≡ false) × (s.running ≡ None) = runs_alone here e s l r in
-    let empty : s.queue.waiting ≡ [] = none_waits s.queue.waiting (idle_empty (nat_lt 0 s.queue.forced) s.queue.suspended (is_some s.queue.flushing) (has_some s.queue.waiting) same r) in
+    let empty : s.queue.waiting ≡ [] = none_has s.queue.waiting (idle_empty (nat_lt 0 s.queue.forced) s.queue.suspended (is_some s.queue.flushing) (has_some s.queue.waiting) same r) in
     run_calm c E T G here e s1 es total ef alone.1 nc (empty_front s.queue.waiting empty) (λ x. nb x alone.0)
     k)
     (λ r. appended_calm c E T G e s es total nc k)
@@ -256,9 +253,6 @@ offered_all_calm c E T G here (e ∷ es) s total ef nc l nb k =
 
 front_sum : (n e b h total : ℕ) → n + ((e + b) + (h + 0)) ≡ total → n + (b + (h + (e + 0))) ≡ total
 front_sum n e b h total s = omega arith
-
-front_gone : (n b h total : ℕ) → n + ((0 + b) + (h + 0)) ≡ total → n + (b + (h + 0)) ≡ total
-front_gone n b h total s = omega arith
 
 not_front_of : (w w' : List ChildEvent) (e : ChildEvent) → w ≡ e ∷ w' → NotCancel e → NotFront w
 not_front_of w w' (Start code st) h n q rest x = let y : Start code st ∷ w' ≡ Cancel q ∷ rest = sym h ∙ x in cc
@@ -681,10 +675,6 @@ append_right : (E : Status) (T : Status → Type 0) (G : Type 0) (xs ys : List C
 append_right E T G [] ys a b = b
 append_right E T G (x ∷ xs) ys a b = (a.0, append_right E T G xs ys a.1 b)
 
-append_plain : (xs ys : List ChildEvent) → NoCancel xs → NoCancel ys → NoCancel (xs ++ ys)
-append_plain [] ys a b = b
-append_plain (x ∷ xs) ys a b = (a.0, append_plain xs ys a.1 b)
-
 pub append_bytes : (xs ys : List ChildEvent) → events_bytes (xs ++ ys) ≡ events_bytes xs + events_bytes ys
 append_bytes [] ys = sym (zero-add (events_bytes ys))
 append_bytes (e ∷ xs) ys = ap (λ t. event_bytes e + t) (append_bytes xs ys) ∙ sym (add_assoc (event_bytes e) (events_bytes xs) (events_bytes ys))
@@ -698,7 +688,7 @@ split_one E T G true m xs ys n r s =
     let z : events_bytes (back_events_of m ++ back_events xs) ≡ events_bytes (back_events_of m) + events_bytes (back_events xs) = append_bytes (back_events_of m) (back_events xs) in
     let y : events_bytes (back_events_of m) ≡ back_bytes m = a.2 in
     let h : events_bytes (back_events xs) + backs_bytes ys ≡ n = s.3 in
-    (append_right E T G (back_events_of m) (back_events xs) a.0 s.0, append_plain (back_events_of m) (back_events xs) a.1 s.1, s.2, omega arith)
+    (append_right E T G (back_events_of m) (back_events xs) a.0 s.0, no_cancel_append (back_events_of m) (back_events xs) a.1 s.1, s.2, omega arith)
 split_one E T G false m xs ys n r s = let h : events_bytes (back_events xs) + backs_bytes ys ≡ n = s.3 in (s.0, s.1, (r, s.2), omega arith)
 
 split_all : (E : Status) (T : Status → Type 0) (G : Type 0) (i : ℕ) (ks : List BackMsg) → RightBacks E T G ks → Splits E T G (of_hop i ks) (not_of_hop i ks) (backs_bytes ks)

@@ -291,9 +291,6 @@ pub course_says : (c : ChannelPlan) (E : Status) (T : Status → Type 0) (G : Ty
 course_says c E T G trace kept stopped r w n u m S a b k =
     course_map c E T G trace kept stopped r w w n u (u ++ m ∷ []) S S (λ x. x) (same_front w) (λ x y. right_then c u m x (a y)) (λ x. silent_then u m x b) (λ x. x) k
 
-pub fails_not : (E : Status) → is_failure E ≡ true → is_failure E ≡ false → ⊥
-fails_not E a b = let x : true ≡ false = sym a ∙ b in cc
-
 pub merged_fails : (st : Status) → is_failure st ≡ true → merged None st ≡ Some st
 merged_fails st f = rw f refl
 

@@ -12,6 +12,7 @@ use Rattle.nk_plan.specs.declared.plan.Act.{Act}
 use Rattle.nk_plan.specs.declared.plan.Control.{Control}
 use Rattle.nk_plan.specs.declared.journal.ChildEntry.{ChildEntry}
 use Rattle.nk_base.specs.Status.{is_failure, merged}
+use Rattle.nk_laws.proofs.Merge.{no_kept}
 use Rattle.nk_laws.proofs.Premises.{Known}
 use Rattle.nk_base.specs.Queue.{Taken, Event, Over, Ended, same_target, is_target, target_in, runs_now, running_now, appended, completed, cleared, taken}
 use Rattle.nk_plan.specs.Journal.{mains_taken, backs_taken}
@@ -582,13 +583,9 @@ step_owes bad c step.Release s l o g = owes_plain bad c step.Release s tt l o
 step_owes bad c (step.Begin t) s l o g = owes_plain bad c (step.Begin t) s tt l o
 step_owes bad c (step.Finish t) s l o g = owes_plain bad c (step.Finish t) s tt l o
 
-first_kept : (l : StartLane) → (new_hold l).kept ≡ []
-first_kept lane.Main = refl
-first_kept lane.Back = refl
-
 pub child_owes : (bad : Bool) (c : ChannelPlan) (steps : List ChildStep) → Known c → TookGood bad (child_after c steps).journal → OwesAll bad (child_after c steps)
 child_owes bad c [] v g =
-    let e : (new_hold c.start).kept ≡ [] = first_kept c.start in
+    let e : (new_hold c.start).kept ≡ [] = no_kept c.start in
     let z : backs_size (new_hold c.start).kept ≡ 0 = ap backs_size e in
     record {
       dropped = 0;

@@ -17,7 +17,7 @@ use Rattle.nk_plan.specs.Walk.{ParentBlock, ChildBlock, walk_start, CanPlace, pl
 use Rattle.nk_laws.proofs.Tools.{append_nil, last_empty}
 use Rattle.nk_laws.proofs.Blocks.{ParentTakesFirst, parent_enters, ChildTakesFirst, child_enters, parent_block_at, child_block_at, parent_block_is, child_block_is}
 use Rattle.nk_half_laws.specs.Growth.{GrowthLaw, telling_at}
-use Rattle.nk_laws.proofs.Tells.{child_named}
+use Rattle.nk_laws.proofs.Tells.{child_named, sends-append}
 use Rattle.nk_laws.proofs.Placing.{walk_exact}
 use Rattle.nk_laws.proofs.CutChild.{ChildPiece, Nothing, Parts, total, child_whole, quiet_child, child_parts, child_wholes, all_child_parts, child_cut}
 use Rattle.nk_laws.proofs.CutParent.{Sends, ParentPiece, total_mains, total_backs, parent_whole, quiet_parent, parent_parts, parent_wholes, all_parent_parts, parent_cut}
@@ -182,10 +182,6 @@ child_entries-append : (t : Telling) (j k : List ChildEntry) → child_entries t
 child_entries-append t [] k = refl
 child_entries-append t (e ∷ j) k = ap (λ x. child_entry_block t e ∷ x) (child_entries-append (telling_after t e) j k)
 
-sends_from-append : (t : Telling) (j k : List ChildEntry) → sends_from t (j ++ k) ≡ sends_from t j ++ sends_from (telling_at t j) k
-sends_from-append t [] k = refl
-sends_from-append t (e ∷ j) k = ap (λ x. sends_at t e ++ x) (sends_from-append (telling_after t e) j k) ∙ sym (append_assoc (sends_at t e) (sends_from (telling_after t e) j) (sends_from (telling_at (telling_after t e) j) k))
-
 -- what a step sent is what its entries tell
 step_sends : GrowthLaw → (c : ChannelPlan) (x : ChildStep) (xs : List ChildStep) → length (child_enters c x (child_after c xs)).messages ≡ length (sends_from (told c xs) (child_enters c x (child_after c xs)).entries)
 step_sends growth c x xs =
@@ -194,7 +190,7 @@ step_sends growth c x xs =
     let before : sends_from new_telling s.journal ≡ s.sent = (child_named growth c xs).sends in
     let after : sends_from new_telling (child_after c (x ∷ xs)).journal ≡ (child_after c (x ∷ xs)).sent = (child_named growth c (x ∷ xs)).sends in
     let all : s.sent ++ sends_from (told c xs) e.entries ≡ s.sent ++ e.messages =
-    ap (λ t. t ++ sends_from (told c xs) e.entries) (sym before) ∙ (sym (sends_from-append new_telling s.journal e.entries) ∙ (ap (λ t. sends_from new_telling t) (sym e.journal_is) ∙ (after ∙ e.sent_is))) in
+    ap (λ t. t ++ sends_from (told c xs) e.entries) (sym before) ∙ (sym (sends-append new_telling s.journal e.entries) ∙ (ap (λ t. sends_from new_telling t) (sym e.journal_is) ∙ (after ∙ e.sent_is))) in
     let l = length-append s.sent (sends_from (told c xs) e.entries) in
     let k = length-append s.sent e.messages in
     let a = ap length all in omega arith

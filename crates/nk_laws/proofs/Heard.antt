@@ -17,11 +17,12 @@ use Rattle.nk_base.specs.Status.{redirect_loop, is_failure, merged}
 use Rattle.nk_plan.specs.Plan.{hop_at}
 use Rattle.nk_plan.specs.declared.step.Phase.{Phase}
 use Rattle.nk_plan.specs.declared.step.Phase.TheVariants.{Closed, Ready, Asking, Follow, Body, Done}
+use Rattle.nk_laws.proofs.ChildLaw.{merged_fails}
 use Rattle.nk_laws.proofs.ParentLaw.{ups-append}
 use Rattle.nk_laws.proofs.Tools.{keeps_if, append_nil, among_split}
 use Rattle.nk_plan.specs.declared.event.ChildEvent.{ChildEvent}
 use Rattle.nk_plan.specs.declared.event.ChildEvent.TheVariants.{Start as StartEvent, Stop as StopEvent, Bytes as BytesEvent, Redirect1 as Redirect1Event, Redirect3 as Redirect3Event, Cancel as CancelEvent}
-use Rattle.nk_laws.proofs.Order.{strip, stops, strip-append}
+use Rattle.nk_laws.proofs.Order.{strip, stops, strip-append, merged_none}
 use Rattle.nk_laws.proofs.Taking.{main_events}
 use Rattle.nk_half_laws.specs.Settled.{is_failed_open, is_stop, is_deleting, has_end}
 use Rattle.nk_plan.specs.declared.journal.ParentEntry.{ParentEntry}
@@ -188,28 +189,20 @@ open_phase Done e = cc
 done_open : (ph : Phase) → ph ≡ Done → opened_phase ph ≡ Done
 done_open ph e = rw e refl
 
-merged_kept_none : (q : Option Status) (st : Status) → merged q st ≡ None → q ≡ None
-merged_kept_none None st e = refl
-merged_kept_none (Some x) st e = cc
-
-merged_fails_none : (q : Option Status) (st : Status) → is_failure st ≡ true → merged q st ≡ None → ⊥
-merged_fails_none None st f e = let x : Some st ≡ None = rw f at e in cc
-merged_fails_none (Some x) st f e = cc
-
 cancelled_none : (ph : Phase) (q : Option Status) (st : Status) → kept_after_cancel ph q st ≡ None → q ≡ None
-cancelled_none Closed q st e = merged_kept_none q st e
-cancelled_none Ready q st e = merged_kept_none q st e
-cancelled_none Asking q st e = merged_kept_none q st e
-cancelled_none Follow q st e = merged_kept_none q st e
-cancelled_none Body q st e = merged_kept_none q st e
+cancelled_none Closed q st e = merged_none q st e
+cancelled_none Ready q st e = merged_none q st e
+cancelled_none Asking q st e = merged_none q st e
+cancelled_none Follow q st e = merged_none q st e
+cancelled_none Body q st e = merged_none q st e
 cancelled_none Done q st e = e
 
 cancelled_fails : (ph : Phase) (q : Option Status) (st : Status) → is_failure st ≡ true → (ph ≡ Done) ⊎ (kept_after_cancel ph q st ≡ None → ⊥)
-cancelled_fails Closed q st f = inr (merged_fails_none q st f)
-cancelled_fails Ready q st f = inr (merged_fails_none q st f)
-cancelled_fails Asking q st f = inr (merged_fails_none q st f)
-cancelled_fails Follow q st f = inr (merged_fails_none q st f)
-cancelled_fails Body q st f = inr (merged_fails_none q st f)
+cancelled_fails Closed q st f = inr (merged_fails q st f)
+cancelled_fails Ready q st f = inr (merged_fails q st f)
+cancelled_fails Asking q st f = inr (merged_fails q st f)
+cancelled_fails Follow q st f = inr (merged_fails q st f)
+cancelled_fails Body q st f = inr (merged_fails q st f)
 cancelled_fails Done q st f = inl refl
 
 -- a message that changes phase and failure in this way
@@ -237,7 +230,7 @@ done_answered : (ph : Phase) (h asked : ℕ) → ph ≡ Done → (if awaits_verd
 done_answered ph h asked e = rw e refl
 
 answered_kept : (b : Bool) (k : Option Status) (st : Status) → (if b then merged k st else k) ≡ None → k ≡ None
-answered_kept true k st e = merged_kept_none k st e
+answered_kept true k st e = merged_none k st e
 answered_kept false k st e = e
 
 upped_heard : (c : ChannelPlan) (m : UpMsg) (s : ParentState) (u : List UpMsg) → Heard s.phase s.kept u → Heard (take_up c s m).phase (take_up c s m).kept (u ++ m ∷ [])

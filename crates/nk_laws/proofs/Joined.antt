@@ -1,5 +1,5 @@
 -- The two sides of a channel are runs, and what each took begins what the other sent.
-use Rattle.std.proofs.Common.{ℕ, zero, suc, ◌≡◌, ◌≤◌, ◌<◌, refl, sym, ◌∙◌, ap, subst, List, [], ◌∷◌, ◌++◌, length, if◌then◌else◌, nat_lt, take, drop, arith, append_assoc, Option, Some, None, slice_get, ◌==◌, pos, int_lt, length-append}
+use Rattle.std.proofs.Common.{ℕ, zero, suc, ◌≡◌, ◌≤◌, ◌<◌, refl, sym, ◌∙◌, ap, List, [], ◌∷◌, ◌++◌, length, if◌then◌else◌, nat_lt, take, drop, arith, append_assoc, Option, Some, None, slice_get, ◌==◌, pos, int_lt, length-append}
 use Rattle.std.proofs.lemmas.List.{take-append-le}
 use Rattle.nk_base.specs.declared.message.MainMsg.{MainMsg}
 use Rattle.nk_base.specs.declared.message.BackMsg.{BackMsg}
@@ -115,9 +115,6 @@ up_journal c up.Deleting s = refl
 prefix_more : {A : Type 0} (xs ys zs : List A) → IsPrefix xs ys → IsPrefix xs (ys ++ zs)
 prefix_more xs ys zs (r, e) = (r ++ zs, sym (append_assoc xs r zs) ∙ ap (λ t. t ++ zs) e)
 
-prefix_same : {A : Type 0} (xs ys zs : List A) → ys ≡ zs → IsPrefix xs ys → IsPrefix xs zs
-prefix_same xs ys zs e (r, f) = (r, f ∙ e)
-
 pub rest_after : {A : Type 0} (xs ys zs : List A) → xs ++ ys ≡ zs → drop (length xs) zs ≡ ys
 rest_after [] ys zs e = sym e
 rest_after (x ∷ xs) ys [] e = cc
@@ -150,10 +147,6 @@ plain_joined c w x n i =
       backs = rw (g.journal_is, child_side.backs-append w.child.journal g.entries, g.no_back, append_nil (backs_taken w.child.journal)) i.backs;
       ups = rw g.sent_is (prefix_more (ups_taken w.parent.journal) w.child.sent g.messages i.ups);
     }
-
--- a step of the child that is not taken
-idle_joined : (c : ChannelPlan) (w : Channel) (s : ChildState) → w.child ≡ s → Joined c w → Joined c (record w { child = s })
-idle_joined c w s e i = subst (λ (x : ChildState). Joined c (record w { child = x })) e i
 
 -- what a child is after a message of the main lane
 pub main_says : (c : ChannelPlan) (m : MainMsg) (s : ChildState) (g : Grows (s.journal ++ child_entry.TookMain m ∷ []) s.sent (step_main c m (with_entry (child_entry.TookMain m) s)))

@@ -344,10 +344,6 @@ head_code (Some (hop.Fail st)) s head h = absurd h
 head_code (Some (hop.Redirect code verdict)) s head h = rw h.1 refl
 head_code (Some (hop.Response own pieces end trailers)) s head h = rw h refl
 
-over_question : (c : ChannelPlan) (f : ℕ) (b : Bool) → Over (question c f b)
-over_question c f false = refl
-over_question c f true = refl
-
 last_question : (c : ChannelPlan) (g f : ℕ) (b : Bool) (md : List MainMsg) → ReportsLast c g md → ReportsLast c g (question c f b ++ md)
 last_question c g f false md r = r
 last_question c g f true md r = r
@@ -485,7 +481,7 @@ start_waits c lane.Back md bd x e = record {
   back_of = x.back_of;
 }
 
-no_kept : (l : StartLane) → (new_hold l).kept ≡ []
+pub no_kept : (l : StartLane) → (new_hold l).kept ≡ []
 no_kept lane.Main = refl
 no_kept lane.Back = refl
 

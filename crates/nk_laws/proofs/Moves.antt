@@ -14,8 +14,8 @@ use Rattle.nk_plan.specs.Channel.{Channel, main_lane, up_lane, channel_after, ha
 use Rattle.nk_laws.specs.Moves.{Joined, ups_of, mains_of, backs_of, ParentMoves, ChildMoves, HalfMoves, Moves}
 use Rattle.nk_laws.proofs.ParentLaw.{ups-append, mains-append, backs-append}
 use Rattle.nk_laws.proofs.Grows as child_side
-use Rattle.nk_laws.proofs.Blocks.{ParentEnters, parent_enters, ChildEnters, child_enters}
-use Rattle.nk_laws.proofs.Joined.{joined, rest_after}
+use Rattle.nk_laws.proofs.Blocks.{ParentEnters, parent_enters, ChildEnters, child_enters, added}
+use Rattle.nk_laws.proofs.Joined.{joined}
 
 -- one more is taken
 drop_next : {A : Type 0} (n : ℕ) (xs : List A) → drop (suc n) xs ≡ drop 1 (drop n xs)
@@ -34,10 +34,6 @@ one_further (suc n) (x ∷ xs) = ap (λ t. x ∷ t) (one_further n xs)
 prefix_length : {A : Type 0} (xs ys zs : List A) → xs ++ ys ≡ zs → length xs ≤ length zs
 prefix_length xs ys zs e = let h : length (xs ++ ys) ≡ length zs = ap length e in let k : length (xs ++ ys) ≡ length xs + length ys = length-append xs ys in omega arith
 
--- what a step adds, by what it leaves
-added_is : {A : Type 0} (xs more ys : List A) → ys ≡ xs ++ more → drop (length xs) ys ≡ more
-added_is xs more ys e = rest_after xs more ys (sym e)
-
 dropped : {A : Type 0} (n : ℕ) (m xs : List A) → drop (length m) (drop n xs) ≡ drop (n + length m) xs
 dropped n m xs = drop-drop (length m) n xs
 
@@ -46,7 +42,7 @@ parent_moves c w x j =
     let p : List ParentEntry = w.parent.journal in
     let s : ParentState = parent_step c x w.parent in
     let n : ParentEnters x w.parent s = parent_enters c x w.parent in
-    let a : drop (length p) s.journal ≡ n.entries = added_is p n.entries s.journal n.journal_is in
+    let a : drop (length p) s.journal ≡ n.entries = added p n.entries s.journal n.journal_is in
     let ms : mains_sent s.journal ≡ mains_sent p ++ mains_sent n.entries = ap mains_sent n.journal_is ∙ mains-append p n.entries in
     let bs : backs_sent s.journal ≡ backs_sent p ++ backs_sent n.entries = ap backs_sent n.journal_is ∙ backs-append p n.entries in
     let us : ups_taken s.journal ≡ ups_taken p ++ ups_of x = ap ups_taken n.journal_is ∙ (ups-append p n.entries ∙ ap (λ t. ups_taken p ++ t) n.ups) in
@@ -83,7 +79,7 @@ child_moves c w x j =
           dropped (length (backs_taken w.child.journal)) (backs_of x w.child.broken) (take w.forwarded (backs_sent w.parent.journal))
           ∙ ap (λ k. drop k (take w.forwarded (backs_sent w.parent.journal))) (sym (length-append (backs_taken w.child.journal) (backs_of x w.child.broken)) ∙ ap length (sym bt));
       up =
-          ap (λ t. up_lane w ++ t) (added_is w.child.sent n.messages s.sent n.sent_is)
+          ap (λ t. up_lane w ++ t) (added w.child.sent n.messages s.sent n.sent_is)
           ∙ (sym (drop-append-le (length (ups_taken w.parent.journal)) w.child.sent n.messages l) ∙ ap (λ t. drop (length (ups_taken w.parent.journal)) t) (sym n.sent_is));
     }
 

@@ -1,5 +1,5 @@
 -- A parent's credit: the window, less what was sent, and what the page acknowledged.
-use Rattle.std.proofs.Common.{ℕ, zero, suc, ◌≡◌, ◌+◌, ◌≤◌, refl, sym, ◌∙◌, ap, subst, List, [], ◌∷◌, ◌++◌, length, Bool, true, false, nat_lt, take, arith, Option, Some, None, slice_get, ◌==◌, ℤ, pos, int_lt, is_some, not, ◌||◌, add-zero, ◌+ℤ◌, ◌-ℤ◌, ◌≤ℤ◌}
+use Rattle.std.proofs.Common.{ℕ, zero, suc, ◌≡◌, ◌+◌, ◌≤◌, refl, sym, ◌∙◌, ap, subst, List, [], ◌∷◌, ◌++◌, length, Bool, true, false, nat_lt, take, arith, Option, Some, None, slice_get, ◌==◌, ℤ, pos, int_lt, is_some, not, add-zero, ◌+ℤ◌, ◌-ℤ◌, ◌≤ℤ◌}
 use Rattle.nk_base.specs.declared.message.MainMsg.{MainMsg}
 use Rattle.nk_base.specs.declared.message.BackMsg.{BackMsg}
 use Rattle.nk_base.specs.declared.message.UpMsg.{UpMsg}
@@ -23,7 +23,7 @@ use Rattle.nk_plan.specs.Plan.{hop_at, hop_pieces}
 use Rattle.nk_plan.specs.declared.step.Phase.{Phase}
 use Rattle.nk_plan.specs.declared.step.Phase.TheVariants.{Closed, Ready, Asking, Follow, Body, Done}
 use Rattle.nk_laws.proofs.ParentLaw.{ups-append, backs-append, Keeps, InBody}
-use Rattle.nk_laws.proofs.Tools.{keeps_if, append_nil, by_bool}
+use Rattle.nk_laws.proofs.Tools.{keeps_if, append_nil, by_bool, or_zero}
 use Rattle.nk_laws.proofs.Merge.{prefix_of_take}
 use Rattle.nk_laws.specs.Moves.{Joined}
 use Rattle.nk_laws.proofs.Joined.{Adds, fetch_step_adds, up_journal, joined}
@@ -228,10 +228,6 @@ pub keeps_body : (c : ChannelPlan) (s : ParentState) (ph : Phase) → s.phase �
 keeps_body c s ph e b k = rw (e ∙ b) at k
 
 -- where a body waits it is for credit
-last_false : (a b : Bool) → (a || b) ≡ false → b ≡ false
-last_false true b h = cc
-last_false false b h = h
-
 pub body_waits : (s : ParentState) (q : Option Status) (pieces : List (List ℕ)) → body_enabled s q pieces ≡ false → (q ≡ None) × (int_lt (pos 0) s.credit ≡ false)
 body_waits s (Some q) pieces b = cc
-body_waits s None pieces b = (refl, last_false (not (is_some (slice_get pieces s.piece))) (int_lt (pos 0) s.credit) b)
+body_waits s None pieces b = (refl, or_zero (not (is_some (slice_get pieces s.piece))) (int_lt (pos 0) s.credit) b)

@@ -25,11 +25,6 @@ forward_more : (n : ℕ) (a b c : ℕ) → may_forward n a b ≡ true → may_fo
 forward_more zero a b c h = h
 forward_more (suc n) a b c h = lt_more a b c h
 
-child_more : (bs : List ChildBlock) (mt ms ks bt bm k : ℕ) → may_child bs mt ms bt bm ≡ true → may_child bs mt (ms + ks) bt (bm + k) ≡ true
-child_more [] mt ms ks bt bm k h = h
-child_more (b ∷ bs) mt ms ks bt bm k h =
-    both _ _ (may_more b.takes_main mt ms ks (one _ _ h)) (may_more b.takes_back bt bm k (other (may b.takes_main mt ms) _ h))
-
 child_more_mains : (bs : List ChildBlock) (mt ms ks bt bm : ℕ) → may_child bs mt ms bt bm ≡ true → may_child bs mt (ms + ks) bt bm ≡ true
 child_more_mains [] mt ms ks bt bm h = h
 child_more_mains (b ∷ bs) mt ms ks bt bm h =

@@ -20,9 +20,9 @@ use Rattle.nk_plan.specs.Child.{main_events_of, note_main, step_main, back_hop, 
 use Rattle.nk_plan.specs.declared.event.ChildEvent.{ChildEvent}
 use Rattle.nk_plan.specs.declared.event.ChildEvent.TheVariants.{Start, Bytes, Stop, Redirect1, Redirect3, Cancel}
 use Rattle.nk_plan.specs.Event.{class_of}
-use Rattle.nk_laws.proofs.Tools.{keeps_if, append_nil, among_more, among_last, among_split}
+use Rattle.nk_laws.proofs.Tools.{keeps_if, append_nil, among_more, among_last, among_split, none_has}
 use Rattle.nk_plan.specs.Lanes.{Among}
-use Rattle.nk_laws.proofs.ChildLaw.{run_waiting, idle_empty, none_waits}
+use Rattle.nk_laws.proofs.ChildLaw.{run_waiting, idle_empty}
 use Rattle.nk_laws.proofs.Grows.{Grows, NoLane, plain_grows, main_grows, back_grows, noted_grows}
 use Rattle.nk_laws.proofs.Merge.{main_events-append}
 use Rattle.nk_laws.proofs.Taking.{main_events}
@@ -179,7 +179,7 @@ offered_quiz c tm pend here e s z =
     let s1 : ChildState = record s { queue = running_now s.queue here } in
     keeps_if (QuizAt tm pend) (runs_now class_of s.queue e here) (run_event c here e s1) _
     (λ r.
-    let w0 : s.queue.waiting ≡ [] = none_waits s.queue.waiting
+    let w0 : s.queue.waiting ≡ [] = none_has s.queue.waiting
     (idle_empty (nat_lt 0 s.queue.forced) s.queue.suspended (is_some s.queue.flushing) (has_some s.queue.waiting) (same_target (target_in s.queue.data_target (class_of e)) here) r) in
     let z1 : QuizOn tm (e ∷ pend) s = subst (λ (x : List ChildEvent). Quiz (x ++ e ∷ pend) s.question s.sent s.broken tm) w0 z in
     let ran : QuizOn tm pend (run_event c here e s1) = run_quiz c tm pend here e s1 z1 in

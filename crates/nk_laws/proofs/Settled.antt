@@ -30,12 +30,12 @@ use Rattle.nk_half_laws.specs.Settled.{IsIdle}
 use Rattle.nk_laws.specs.Moves.{Joined}
 use Rattle.nk_laws.proofs.Joined.{joined, rest_after, run_trace}
 use Rattle.nk_laws.proofs.Heard.{Hears, parent_hears}
-use Rattle.nk_laws.proofs.Still.{none_has, zero_or, unless, prefix_all, cut_stopped, channel_inv, at_rest, due_none, reports_none, all_moved}
+use Rattle.nk_laws.proofs.Still.{zero_or, unless, prefix_all, cut_stopped, channel_inv, at_rest, due_none, reports_none, all_moved}
 use Rattle.nk_laws.proofs.Asking.{still}
 use Rattle.nk_laws.proofs.Tally.{Tallied, child_tally, stop_last}
 use Rattle.nk_laws.proofs.Credit.{read_of, backs_size, events_size, run_size, GoodMains, GoodBacks, OwesAll, TookGood, child_owes}
 use Rattle.nk_laws.proofs.Paid.{covered, body_good, keeps_body, body_waits}
-use Rattle.nk_laws.proofs.Tools.{by_bool}
+use Rattle.nk_laws.proofs.Tools.{by_bool, none_has}
 
 -- A parent does not wait for credit for ever
 

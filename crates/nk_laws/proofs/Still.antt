@@ -17,7 +17,7 @@ use Rattle.nk_plan.specs.Channel.{Channel, main_lane, back_lane, up_lane, channe
 use Rattle.nk_plan.specs.declared.step.Step.{Step}
 use Rattle.nk_plan.specs.declared.step.Step.TheVariants.{Act, Verdict, Fetch, Up, Forward, Main, Back, Release, Begin, Finish}
 use Rattle.nk_plan.specs.Enabled.{phase_enabled, body_enabled, IsSettled}
-use Rattle.nk_laws.proofs.Tools.{append_nil, by_bool}
+use Rattle.nk_laws.proofs.Tools.{append_nil, by_bool, none_has, le_or_more}
 use Rattle.nk_laws.proofs.ParentLaw.{lane_law}
 use Rattle.nk_laws.proofs.Order.{Around, Holds, strip, stops}
 use Rattle.nk_laws.proofs.Merge.{run_inv, start_inv, fed, prefix_of_take}
@@ -32,10 +32,6 @@ use Rattle.nk_plan.specs.declared.step.Phase.{Phase}
 use Rattle.nk_plan.specs.declared.step.Phase.TheVariants.{Closed, Ready, Asking, Follow, Body, Done}
 use Rattle.nk_base.specs.declared.message.UpMsg.TheVariants as up
 use Rattle.nk_plan.specs.declared.step.ChildStep.TheVariants as child
-
-pub none_has : {A : Type 0} (w : List A) → has_some w ≡ false → w ≡ []
-none_has [] h = refl
-none_has (e ∷ w) h = cc
 
 pub unless : (a b : Bool) → a ≡ false → (not a && b) ≡ false → b ≡ false
 unless true b e h = cc
@@ -66,11 +62,6 @@ pub zero_or : (n : ℕ) → (n ≡ 0) ⊎ (0 < n)
 zero_or zero = inl refl
 zero_or (suc n) = inr (omega arith)
 
-le_or_lt : (m n : ℕ) → (m ≤ n) ⊎ (n < m)
-le_or_lt m zero = elim (zero_or m) [ inl e ↦ inl (omega arith) | inr e ↦ inr e ]
-le_or_lt zero (suc n) = inl (omega arith)
-le_or_lt (suc m) (suc n) = elim (le_or_lt m n) [ inl e ↦ inl (omega arith) | inr e ↦ inr (omega arith) ]
-
 -- with no main message left, hop g was released, since no report is noted
 pub due_none : (c : ChannelPlan) (g : ℕ) (hold : Hold) (um : List MainMsg) → um ≡ [] → (hold.report ≡ Some g → ⊥) → (is_among hold.released g ≡ true → hold.kept ≡ []) → Due c g hold um → hold.kept ≡ []
 due_none c g hold [] e n r (inl x) = absurd x
@@ -92,7 +83,7 @@ reports_none None g e h = cc
 reports_none (Some x) g e h = cc
 
 pub all_moved : (n m : ℕ) → nat_lt n m ≡ false → m ≤ n
-all_moved n m e = elim (le_or_lt m n) [ inl x ↦ x | inr x ↦ let y : nat_lt n m ≡ true = lt-ltb n m x in absurd (cc) ]
+all_moved n m e = elim (le_or_more m n) [ inl x ↦ x | inr x ↦ let y : nat_lt n m ≡ true = lt-ltb n m x in absurd (cc) ]
 
 -- a channel that is still and not suspended, whose child is not broken, has shown its stop exactly where its parent has sent it
 whole_still : (c : ChannelPlan) (w : Channel) (j : Joined c w) → IsSettled c w → w.child.queue.waiting ≡ []
@@ -164,10 +155,6 @@ prefix_all xs ys (r, e) d =
 abbrev pub Stuck : ChannelPlan → ParentState → Type 0
 Stuck c p = (p.phase ≡ Asking) ⊎ ((p.phase ≡ Body) × (body_enabled p p.kept (pieces_at c p.hop) ≡ false))
 
-and_right : (a b : Bool) → a ≡ false → (not a && b) ≡ false → b ≡ false
-and_right true b e h = cc
-and_right false b e h = h
-
 opened_now : (closed opened due : Bool) → closed ≡ false → (not closed && (not opened || due)) ≡ false → opened ≡ true
 opened_now true opened due e h = cc
 opened_now false true due e h = refl
@@ -208,7 +195,7 @@ channel_still c steps v r not_closed still =
               | inr z ↦ inr (inl z)
               | inl z ↦
                   let flag : p.suspended ≡ false = by_bool p.suspended (λ y. let l : 0 < s.suspends = (agree all).0 y in absurd (omega arith)) (λ y. y) in
-                  let phase : phase_enabled c p p.phase ≡ false = and_right p.suspended (phase_enabled c p p.phase) flag (still Fetch tt) in
+                  let phase : phase_enabled c p p.phase ≡ false = unless p.suspended (phase_enabled c p p.phase) flag (still Fetch tt) in
                   elim (phase_still c p p.phase s.stopped (sent_all w) refl phase (λ e. heard.closed_heard e open_heard)
                   (λ e. elim (end_heard p.journal (over e)) [ inl q ↦ inr q | inr q ↦ inl (told.deleting_said (rw all at q)) ]) x) [
                     | inl q ↦ inl q

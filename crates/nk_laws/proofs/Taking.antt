@@ -14,8 +14,8 @@ use Rattle.nk_plan.specs.Journal.{mains_taken, backs_taken}
 use Rattle.nk_plan.specs.Lanes.{IsPrefix}
 use Rattle.nk_plan.specs.declared.event.ChildEvent.{ChildEvent}
 use Rattle.nk_plan.specs.Child.{Hold, ChildState, offer_all, with_entry, perform_control, step_act, perform_call, call_break, main_events_of, note_main, step_main, note_report, note_redirect, back_hop, back_events_of, back_events, is_among, keep_back, hold_back, step_back}
-use Rattle.nk_laws.proofs.Tools.{keeps_if, append_nil}
-use Rattle.nk_laws.proofs.ChildLaw.{Broken, offered_all_keeps, same_entry, performed_keeps, broken_keeps, or_false, or_false_right}
+use Rattle.nk_laws.proofs.Tools.{keeps_if, append_nil, or_zero}
+use Rattle.nk_laws.proofs.ChildLaw.{Broken, offered_all_keeps, same_entry, performed_keeps, broken_keeps, or_false}
 use Rattle.nk_laws.proofs.Order.{strip, NoCancel, stops, Around, Holds, Keeps, strip-append, says_new, or_else_none}
 use Rattle.nk_base.specs.declared.status.Target.TheVariants as target
 use Rattle.nk_base.specs.declared.message.MainMsg.TheVariants as main
@@ -163,9 +163,6 @@ inv_by c md bd s s' f (inr i) = inr (record { around = i.around; keeps = f i.aro
 
 -- The step of the page
 
-pub same_state : (c : ChannelPlan) (a : Around) (pend : List ChildEvent) (s : ChildState) (n : ℕ) → Keeps c a pend s → Keeps c a pend (record s { next = n })
-same_state c a pend s n k = k
-
 pub break_inv : (c : ChannelPlan) (md : List MainMsg) (bd : List BackMsg) (s : ChildState) (st : Status) → is_failure st ≡ true → Inv c md bd s → Inv c md bd (perform_call c (act.Break st) s)
 break_inv c md bd s st sf i =
     keeps_if (Inv c md bd) (s.stopped || s.broken) (with_entry child.NoEffect s) (call_break c st s)
@@ -174,7 +171,7 @@ break_inv c md bd s st sf i =
       | inl x ↦
           let b : Broken c x.around (call_break c st s) = broken_keeps c x.around _ _ st s x.not_cut (or_false s.stopped s.broken r) sf x.keeps in
           inr (record { around = record { final = b.0; cut = b.1; hold = x.around.hold; broken = true; ends = true; mains = x.around.mains; backs = x.around.backs }; keeps = b.2; final_at = (λ e. b.3 e ∙ x.final_at); broken = refl; ends_is = refl })
-      | inr x ↦ let y : s.broken ≡ true = cut_broken c md s x in let z : s.broken ≡ false = or_false_right s.stopped s.broken r in absurd (cc)
+      | inr x ↦ let y : s.broken ≡ true = cut_broken c md s x in let z : s.broken ≡ false = or_zero s.stopped s.broken r in absurd (cc)
     ])
 
 pub act_inv : (c : ChannelPlan) (md : List MainMsg) (bd : List BackMsg) (s : ChildState) (x : Act) → ((st : Status) → x ≡ act.Break st → is_failure st ≡ true) → Inv c md bd s → Inv c md bd (perform_call c x s)
@@ -423,10 +420,6 @@ no_cancel_backs (m ∷ ms) = no_cancel_append (back_events_of m) (back_events ms
 pub all_then : (g : ℕ) (ms : List BackMsg) (m : BackMsg) → AllOf g ms → back_hop m ≡ g → AllOf g (ms ++ m ∷ [])
 all_then g [] m a e = (e, tt)
 all_then g (x ∷ ms) m a e = (a.0, all_then g ms m a.1 e)
-
-pub not_empty : {A : Type 0} (xs : List A) (x : A) → xs ++ x ∷ [] ≡ [] → ⊥
-not_empty [] x e = cc
-not_empty (y ∷ xs) x e = cc
 
 -- the state after a message of the background lane was entered, with what is to come, and before it passes or is kept
 pub record Noted (c : ChannelPlan) (m : BackMsg) (md : List MainMsg) (bd : List BackMsg) (s : ChildState) : Type 0 where

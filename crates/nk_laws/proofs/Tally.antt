@@ -104,9 +104,6 @@ pub or_true : (b : Bool) → (b || true) ≡ true
 or_true true = refl
 or_true false = refl
 
-noted_tally : (e : ChildEntry) (s : ChildState) → is_open e ≡ false → is_suspend e ≡ false → is_resume e ≡ false → is_finish e ≡ false → Tallied s → Tallied (with_entry e s)
-noted_tally e s eo es er ef k = plain_tally s.journal e s.opened s.suspends s.finished s.trace s.stopped eo es er ef k
-
 same_tally : (e : ChildEntry) (s : ChildState) → is_open e ≡ false → is_suspend e ≡ false → is_resume e ≡ false → is_finish e ≡ false → Tallied s → Tally (s.journal ++ e ∷ []) s.opened s.suspends s.finished s.trace s.stopped
 same_tally e s eo es er ef k = plain_tally s.journal e s.opened s.suspends s.finished s.trace s.stopped eo es er ef k
 

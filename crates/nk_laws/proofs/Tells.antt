@@ -41,7 +41,7 @@ telling-append : (t : Telling) (j k : List ChildEntry) → telling_at t (j ++ k)
 telling-append t [] k = refl
 telling-append t (e ∷ j) k = telling-append (telling_after t e) j k
 
-sends-append : (t : Telling) (j k : List ChildEntry) → sends_from t (j ++ k) ≡ sends_from t j ++ sends_from (telling_at t j) k
+pub sends-append : (t : Telling) (j k : List ChildEntry) → sends_from t (j ++ k) ≡ sends_from t j ++ sends_from (telling_at t j) k
 sends-append t [] k = refl
 sends-append t (e ∷ j) k =
     ap (λ u. sends_at t e ++ u) (sends-append (telling_after t e) j k)
