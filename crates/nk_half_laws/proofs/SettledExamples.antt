@@ -27,7 +27,7 @@ use Rattle.nk_plan.specs.Enabled.{parent_enabled}
 use Rattle.nk_plan.specs.Parent.{parent_after}
 use Rattle.nk_plan.specs.Journal.{ups_taken}
 use Rattle.nk_base.specs.Queue.{target_number}
-use Rattle.nk_half_laws.specs.Settled.{IsIdle, ends_suspended, has_end}
+use Rattle.nk_half_laws.specs.Settled.{IsIdle, forced_by, ends_suspended, has_end}
 use Rattle.nk_half_laws.proofs.Lively.{none_posted}
 
 refused : Status
@@ -64,6 +64,24 @@ lasts : last_sent plan calls ≡ false ∷ false ∷ false ∷ false ∷ false �
     []
 unfolding last_sent plan calls refused
 lasts = refl
+
+-- and how often its queue is forced: while the start runs, and while the stop does
+
+forced : ChannelPlan → List ChildStep → List ℕ
+forced c [] = (child_after c []).queue.forced ∷ []
+forced c (x ∷ xs) = (child_after c (x ∷ xs)).queue.forced ∷ forced c xs
+
+forcing : ChannelPlan → List ChildStep → List ℕ
+forcing c [] = forced_by (child_after c []).running ∷ []
+forcing c (x ∷ xs) = forced_by (child_after c (x ∷ xs)).running ∷ forcing c xs
+
+is_forced : forced plan calls ≡ 0 ∷ 0 ∷ 1 ∷ 0 ∷ 0 ∷ 0 ∷ 0 ∷ 0 ∷ 0 ∷ 0 ∷ 0 ∷ 1 ∷ 0 ∷ 0 ∷ []
+unfolding forced plan calls refused
+is_forced = refl
+
+what_forces : forcing plan calls ≡ 0 ∷ 0 ∷ 1 ∷ 0 ∷ 0 ∷ 0 ∷ 0 ∷ 0 ∷ 0 ∷ 0 ∷ 0 ∷ 1 ∷ 0 ∷ 0 ∷ []
+unfolding forcing plan calls refused
+what_forces = refl
 
 -- A parent. Strays come too: a resume before any suspend, and a suspend once the load is over
 

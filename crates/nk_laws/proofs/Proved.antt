@@ -124,7 +124,7 @@ endings known c steps a q g =
     let g1 : journal_ending c (channel_after c steps).child ≡ ending.Going = sym (told c steps) ∙ g in
     by_bool c.closed
     (λ e. let x : journal_ending c (channel_after c steps).child ≡ ending.Unopened = unopened c.closed _ e in let y : ending.Unopened ≡ ending.Going = sym x ∙ g1 in absurd (cc))
-    (λ e. (ending_told c steps (plan_ok c a)).3 (known c a) e q g1)
+    (λ e. (ending_told c steps (plan_ok c a)).2 (known c a) e q g1)
 
 pub broken : BrokenLaw
 broken c p j n a d b =

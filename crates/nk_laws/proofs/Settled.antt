@@ -180,7 +180,6 @@ told_by c s k e =
 pub ending_told : (c : ChannelPlan) (steps : List Step) → PlanOk c →
     (journal_ending c (channel_after c steps).child ≡ state_ending c (channel_after c steps).child)
     × ((channel_after c steps).child.stopped ≡ ends_in_stop (channel_after c steps).child.trace)
-    × ((channel_after c steps).child.suspends + count_of is_resume (channel_after c steps).child.journal ≡ count_of is_suspend (channel_after c steps).child.journal)
     × (Known c → c.closed ≡ false → IsSettled c (channel_after c steps) → journal_ending c (channel_after c steps).child ≡ Going → ⊥)
 ending_told c steps v =
     let w = channel_after c steps in
@@ -192,6 +191,5 @@ ending_told c steps v =
     let same : journal_ending c s ≡ state_ending c s = told_by c s k (sym e) in (
       same,
       e,
-      k.suspends_is,
       λ r n q g. not_going c steps v r n q (sym same ∙ g),
     )
