@@ -29,7 +29,7 @@ use Rattle.nk_laws.specs.Moves.{Joined}
 use Rattle.nk_laws.proofs.Joined.{Adds, fetch_step_adds, up_journal, joined}
 use Rattle.std.proofs.lemmas.Int.{ints}
 use Rattle.nk_plan.specs.Enabled.{body_enabled}
-use Rattle.nk_laws.proofs.Credit.{read_of, read-append, backs_size, backs_size-append, GoodMains, GoodBacks, OwesAll, child_owes}
+use Rattle.nk_laws.proofs.Credit.{read_of, read-append, backs_size, backs_size-append, GoodMains, GoodBacks, read_most}
 use Rattle.nk_base.specs.declared.message.UpMsg.TheVariants as up
 use Rattle.nk_plan.specs.declared.step.ParentStep.TheVariants as parent
 use Rattle.nk_plan.specs.declared.journal.ParentEntry.TheVariants as entry
@@ -146,11 +146,11 @@ up_covered c m s w h =
 read_within : (c : ChannelPlan) (w : Channel) → Joined c w → Known c → read_of (ups_taken w.parent.journal) ≤ backs_size (backs_sent w.parent.journal)
 read_within c w j v =
     let s = w.child in
-    let o : OwesAll true s = subst (λ (x : ChildState). OwesAll true x) j.child_is (child_owes true c j.child_steps v (λ e. cc, λ e. cc)) in
+    let h : read_of s.sent ≤ backs_size (backs_taken s.journal) =
+    subst (λ (x : ChildState). read_of x.sent ≤ backs_size (backs_taken x.journal)) j.child_is (read_most c j.child_steps v) in
     let b : IsPrefix (backs_taken s.journal) (backs_sent w.parent.journal) = prefix_of_take w.forwarded (backs_taken s.journal) (backs_sent w.parent.journal) j.backs in
     let eb : backs_size (backs_sent w.parent.journal) ≡ backs_size (backs_taken s.journal) + backs_size b.0 = ap backs_size (sym b.1) ∙ backs_size-append (backs_taken s.journal) b.0 in
     let eu : read_of s.sent ≡ read_of (ups_taken w.parent.journal) + read_of j.ups.0 = ap read_of (sym j.ups.1) ∙ read-append (ups_taken w.parent.journal) j.ups.0 in
-    let h = o.sum in
     omega arith
 
 up_done_covered : (c : ChannelPlan) (l : List UpMsg) (w : Channel) → read_of (ups_taken (up_step c l w).parent.journal) ≤ backs_size (backs_sent (up_step c l w).parent.journal) → Covered c w.parent → Covered c (up_step c l w).parent

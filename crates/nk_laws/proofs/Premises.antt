@@ -17,6 +17,7 @@ use Rattle.nk_plan.specs.Plan.{hop_at, pieces_at}
 use Rattle.nk_plan.specs.Parent.{ParentState}
 use Rattle.nk_plan.specs.Enabled.{body_enabled}
 use Rattle.nk_half_laws.specs.Growth.{GrowthLaw, ToldLaw}
+use Rattle.nk_half_laws.specs.Pieces.{ShownLaw}
 use Rattle.nk_half_laws.specs.Settled.{ChildRestLaw, ChildQueueLaw, ParentEndLaw, SuspendsAgreeLaw}
 use Rattle.nk_plan.specs.declared.plan.Hop.TheVariants as hop
 use Rattle.nk_plan.specs.declared.plan.Verdict.TheVariants as verdict
@@ -53,6 +54,7 @@ pub record Known (c : ChannelPlan) : Type 0 where
   pub queue : ChildQueueLaw
   pub growth : GrowthLaw
   pub told : ToldLaw
+  pub shown : ShownLaw
   pub ended : ParentEndLaw
   pub suspends : SuspendsAgreeLaw
 

@@ -33,7 +33,7 @@ use Rattle.nk_laws.proofs.Heard.{Hears, parent_hears}
 use Rattle.nk_laws.proofs.Still.{zero_or, unless, prefix_all, cut_stopped, channel_inv, at_rest, due_none, reports_none, all_moved}
 use Rattle.nk_laws.proofs.Asking.{still}
 use Rattle.nk_laws.proofs.Tally.{Tallied, child_tally, stop_last}
-use Rattle.nk_laws.proofs.Credit.{read_of, backs_size, events_size, run_size, GoodMains, GoodBacks, OwesAll, TookGood, child_owes}
+use Rattle.nk_laws.proofs.Credit.{read_of, backs_size, shown_size, run_size, GoodMains, GoodBacks, Owed, TookGood, child_owes, read_all}
 use Rattle.nk_laws.proofs.Paid.{covered, body_good, keeps_body, body_waits}
 use Rattle.nk_laws.proofs.Tools.{by_bool, none_has}
 
@@ -84,10 +84,10 @@ credit_still c steps v r q z (body, wants) =
           let waits : (p.kept ≡ None) × (int_lt (pos 0) p.credit ≡ false) = body_waits p p.kept (pieces_at c p.hop) wants in
           let none : p.kept ≡ None = waits.0 in
           let good : GoodMains (mains_sent p.journal) × GoodBacks (backs_sent p.journal) = body_good c p.hop p.piece p.kept _ _ _ none b in
-          let o : OwesAll false s = subst (λ (x : ChildState). OwesAll false x) j.child_is (child_owes false c j.child_steps r (subst (λ (x : ChildState). TookGood false x.journal) (sym j.child_is) (λ d. rw am good.0, λ d. rw ab good.1))) in
+          let o : Owed false [] s = subst (λ (x : ChildState). Owed false [] x) j.child_is (child_owes false c j.child_steps r (subst (λ (x : ChildState). TookGood false x.journal) (sym j.child_is) (λ d. rw am good.0, λ d. rw ab good.1))) in
           let heard : Hears p = subst (λ (x : ParentState). Hears x) j.parent_is (parent_hears c j.parent_steps) in
-          let clean : o.dropped ≡ 0 = elim o.excuse [
-            | inl k ↦ k.1
+          let clean : s.kept ≡ None = elim o.excuse [
+            | inl k ↦ k.0
             | inr x ↦ elim x [
               | inl y ↦ absurd (cc)
               | inr y ↦ elim y [
@@ -96,11 +96,10 @@ credit_still c steps v r q z (body, wants) =
               ]
             ]
           ] in
-          let z0 : run_size s.running ≡ 0 = ap run_size idle in
-          let z1 : events_size s.queue.waiting ≡ 0 = ap events_size e in
-          let z2 : backs_size s.hold.kept ≡ 0 = ap backs_size held in
-          let z3 : read_of s.sent + (run_size s.running + (events_size s.queue.waiting + (backs_size s.hold.kept + (0 + o.dropped)))) ≡ backs_size (backs_taken s.journal) = o.sum in
-          let all : read_of s.sent ≡ backs_size (backs_taken s.journal) = omega arith in
+          let P : ChildState → Type 0 = λ y.
+          y.broken ≡ false → y.kept ≡ None → y.running ≡ None → y.queue.waiting ≡ [] → y.hold.kept ≡ [] → read_of y.sent + run_size y.running ≡ shown_size y.trace
+          → read_of y.sent ≡ backs_size (backs_taken y.journal) in
+          let all : read_of s.sent ≡ backs_size (backs_taken s.journal) = subst P j.child_is (read_all c j.child_steps r) nb clean idle e held o.read in
           let read : read_of (ups_taken p.journal) ≡ backs_size (backs_sent p.journal) = rw (au, ← ab) all in
           absurd (no_credit c.window (read_of (ups_taken p.journal)) (backs_size (backs_sent p.journal)) p.credit r.accepted.window.0 (covered c steps r) read waits.1)
     ]

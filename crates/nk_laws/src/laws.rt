@@ -4,6 +4,7 @@
 ghost use Rattle.nk_laws.specs.Laws.{LanesLaw, JoinedLaw, MovesLaw, MergeLaw, RunLaw, HopLaw, FailureLaw, CountsLaw, BoundsLaw, SendsLaw, StateLaw, OrderRunsLaw, RunOrderLaw, GreedyLaw, KeepLaw, StuckLaw, EntriesLaw, EndingToldLaw, EndingLaw, BrokenLaw, CalmLaw, ClosedLaw};
 
 use nk_half_laws::growth::{growth_law, told_law};
+use nk_half_laws::pieces::shown_law;
 use nk_half_laws::settled::{child_queue_law, child_rest_law, parent_end_law, suspend_law};
 
 /// What a parent sends obeys the lane law, whatever messages come from the page's side.
@@ -70,6 +71,7 @@ pub fn ending_law()
 {
     growth_law();
     told_law();
+    shown_law();
     child_rest_law();
     child_queue_law();
     parent_end_law();
@@ -84,6 +86,7 @@ pub fn calm_law()
 {
     growth_law();
     told_law();
+    shown_law();
     child_rest_law();
     child_queue_law();
     parent_end_law();

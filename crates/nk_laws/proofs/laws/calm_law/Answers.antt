@@ -12,6 +12,7 @@ returns c =
       queue = c.child_queue_law.ensures;
       growth = c.growth_law.ensures;
       told = c.told_law.ensures;
+      shown = c.shown_law.ensures;
       ended = c.parent_end_law.ensures;
       suspends = c.suspend_law.ensures.both;
     } in
