@@ -1,4 +1,4 @@
-use Rattle.std.proofs.Common.{◌≡◌, ◌≢◌, ◌≤◌, ◌<◌, ◌+◌, ℕ, zero, suc, refl, sym, ap, subst, ◌∙◌, List, [], ◌∷◌, length, map, drop, get_or, sum_by, slice_get, All, Option, Some, None, Result, Ok, Err, IfOk, arith}
+use Rattle.std.proofs.Common.{◌≡◌, ◌≢◌, ◌≤◌, ◌<◌, ◌+◌, ◌*◌, ℕ, zero, suc, refl, sym, ap, subst, ◌∙◌, List, [], ◌∷◌, length, map, drop, get_or, sum_by, slice_get, All, Option, Some, None, Result, Ok, Err, IfOk, Vec, Global, arith}
 use Rattle.std.specs.List.{AllZip}
 use Rattle.std.proofs.lemmas.List.{drop_more, length-append, length-replicate}
 use Rattle.std.proofs.lemmas.List.Elements.{All-nil, All-cons, All-head, All-tail, All-replicate}
@@ -13,14 +13,17 @@ use Rattle.nk_plan.specs.declared.ends.ReaderEnd.{ReaderEnd}
 use Rattle.nk_plan.specs.declared.ends.Ending.TheVariants as ending
 use Rattle.nk_plan.specs.declared.step.Step.{Step}
 use Rattle.nk_plan.specs.Accepted.{Accepted, IsGoodListener, body_size}
+use Rattle.nk_script.specs.declared.script.Script.{Script}
 use Rattle.nk_script.specs.declared.script.ScheduleItem.{ScheduleItem}
+use Rattle.nk_script.specs.Answers.{IsPlayable}
+use Rattle.nk_script.specs.Grammar.{IsTextOf}
 use Rattle.nk_plan.specs.Readers.{body_of, readers_of, whole_end}
 use Rattle.nk_gen.specs.Summing.{size_of, bytes_in, AreSumsSmall}
 use Rattle.nk_gen_law.specs.Laws.{Fits, SumsLaw}
 use Rattle.nk_world.specs.Play.{Play, IsQuiet}
 use Rattle.nk_world.specs.World.{plan_of, world_step}
 use Rattle.nk_world.specs.End.{IsEnd}
-use Rattle.nk_run.specs.Ends.{scheduled, AreEnds}
+use Rattle.nk_run.specs.Ends.{scheduled, AreEndsOf, AreEnds, IsBounded, IsPlayed, IsOutput}
 
 -- THE SCHEDULE
 
@@ -42,6 +45,23 @@ none_going [] [] h = All-nil (λ (x : ChannelEnd). x.ending ≢ ending.Going)
 none_going [] (e ∷ ends) h = absurd h
 none_going (c ∷ plans) [] h = absurd h
 none_going (c ∷ plans) (e ∷ ends) (here, rest) = All-cons (λ (x : ChannelEnd). x.ending ≢ ending.Going) e ends here.over (none_going plans ends rest)
+
+-- THE BOUNDS
+
+-- what is not a pipe has no readers
+few_read : (k : ListenerKind) (size : ℕ) → IsGoodListener k size → readers_of k * size ≤ 134217728
+few_read listener.Plain size h = omega arith
+few_read (listener.Pipe segment limit readers) size h = h.bytes_read
+
+bounded : (c : ChannelPlan) (e : ChannelEnd) → Accepted c → IsEnd c e → IsBounded c e
+bounded c e a h = record { body = a.few_bytes; pieces = a.few_pieces; read = few_read c.listener (body_size c) a.listener; shown = h.bounded }
+
+pub all_bounded : (plans : List ChannelPlan) (ends : List ChannelEnd) → All Accepted plans → AreEnds plans ends → AllZip IsBounded plans ends
+all_bounded [] [] a h = tt
+all_bounded [] (e ∷ ends) a h = absurd h
+all_bounded (c ∷ plans) [] a h = absurd h
+all_bounded (c ∷ plans) (e ∷ ends) a (here, rest) =
+    (bounded c e (All-head Accepted c plans a) here, all_bounded plans ends (All-tail Accepted c plans a) rest)
 
 -- THE SUMS
 
@@ -77,3 +97,14 @@ each_fits (c ∷ plans) (e ∷ ends) a (here, rest) =
 -- the sums over the ends can be counted
 pub sums_small : SumsLaw → (plans : List ChannelPlan) (ends : List ChannelEnd) → length plans ≤ 1024 → All Accepted plans → AreEnds plans ends → AreSumsSmall ends
 sums_small law plans ends few a h = law plans ends few a (each_fits plans ends a h)
+
+-- WHAT IS PRINTED
+
+pub played : (text : List ℕ) (script : Script) (ends : List ChannelEnd) → IsTextOf script text → IsPlayable script → AreEndsOf script ends → AreEnds script.plans ends → IsPlayed AreEndsOf text script ends
+played text script ends is playable came promised =
+    record { read = is; played = came; promised = promised; bounded = all_bounded script.plans ends playable.plans promised }
+
+pub printed : {E : Type 0} (print : List ChannelEnd → List ℕ) (text : List ℕ) (script : Script) (ends : List ChannelEnd) (r : Result (Vec ℕ Global) E)
+    → IsPlayed AreEndsOf text script ends → IfOk r (λ t. t.items ≡ print ends) → IfOk r (λ t. IsOutput AreEndsOf print text t.items)
+printed print text script ends (Ok t) h is = (script, ends, h, is)
+printed print text script ends (Err e) h is = tt

@@ -1,3 +1,6 @@
 pub mod Channels
 pub mod Tells
 pub mod Listings
+pub mod Runs
+pub mod Plays
+pub mod Calls

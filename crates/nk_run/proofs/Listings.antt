@@ -251,6 +251,7 @@ bad_is_none reads only all e b = λ ns f.
 pub refuses : Reads → FirstOnly → (f : Failure) (all : List ℕ) → Stops f all → RefusesFrames f all
 refuses reads only (failure.Line number c) all h = h
 refuses reads only (failure.Frame e) all h = (h, bad_is_none reads only all e h)
+refuses reads only (failure.Log number) all h = h
 refuses reads only failure.TooLarge all h = h
 refuses reads only failure.Usage all h = h
 refuses reads only failure.Read all h = h

@@ -25,9 +25,14 @@ cause_text cause.EndsEarly = codes "ends early"
 abbrev pub bad_line : ℕ → Cause → List ℕ
 bad_line number c = line (codes "error: line " ++ decimal number ++ codes ": " ++ cause_text c)
 
+-- a log's first line that is not accepted
+abbrev pub bad_log : ℕ → List ℕ
+bad_log number = line (codes "error: log line " ++ decimal number)
+
 abbrev pub status_of : Failure → ℕ
 status_of (failure.Line number c) = 1
 status_of (failure.Frame e) = 7
+status_of (failure.Log number) = 6
 status_of failure.TooLarge = 1
 status_of failure.Usage = 2
 status_of failure.Read = 3
@@ -37,6 +42,7 @@ status_of failure.Memory = 5
 abbrev pub line_of : Failure → List ℕ
 line_of (failure.Line number c) = bad_line number c
 line_of (failure.Frame e) = bad_frame e
+line_of (failure.Log number) = bad_log number
 line_of failure.TooLarge = line (codes "error: input too large")
 line_of failure.Usage = usage_line
 line_of failure.Read = line (codes "error: read")
@@ -47,6 +53,7 @@ line_of failure.Memory = line (codes "error: memory")
 abbrev pub IsFixed : Failure → Type 0
 IsFixed (failure.Line number c) = ⊥
 IsFixed (failure.Frame e) = ⊥
+IsFixed (failure.Log number) = ⊥
 IsFixed failure.TooLarge = Unit {0}
 IsFixed failure.Usage = Unit {0}
 IsFixed failure.Read = Unit {0}
@@ -61,6 +68,7 @@ TellsText expected text status Tells = ((status ≡ expected) × Tells text) ⊎
 abbrev pub TellsAny : Failure → ℕ → (List ℕ → Type 0) → Type 0
 TellsAny (failure.Line number c) status Tells = TellsText 1 (bad_line number c) status Tells
 TellsAny (failure.Frame e) status Tells = TellsText 7 (bad_frame e) status Tells
+TellsAny (failure.Log number) status Tells = TellsText 6 (bad_log number) status Tells
 TellsAny failure.TooLarge status Tells = (status ≡ 1) × Tells (line_of failure.TooLarge)
 TellsAny failure.Usage status Tells = (status ≡ 2) × Tells (line_of failure.Usage)
 TellsAny failure.Read status Tells = (status ≡ 3) × Tells (line_of failure.Read)

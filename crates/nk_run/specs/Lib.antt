@@ -1,7 +1,11 @@
 pub mod Ends
 pub mod Frames
 pub mod Failures
-pub mod Alone
+pub mod Runs
+pub mod Taking
+pub mod Reading
 pub mod Playing
 pub mod Making
 pub mod Listing
+pub mod Commands
+pub mod Laws

@@ -1,13 +1,12 @@
 // Why a run prints no report: the status that it answers, and the line that it prints of it.
 
-ghost use Rattle.std.specs.Prelude.{◌≡◌, ◌≢◌, ◌⊎◌, ◌++◌, ◌∷◌, [], IfOk, IfErr, OnOk};
-ghost use Rattle.nk_run.specs.Failures.{status_of, line_of, bad_line as bad_text, cause_text as text_of, failure_of, IsFixed, TellsAny, TellsText};
+ghost use Rattle.std.specs.Prelude.{◌≡◌, ◌⊎◌, IfOk, IfErr};
 ghost use Rattle.nk_io.specs.Faults.{Rose};
 ghost use Rattle.nk_io.specs.Got.{Gains, GainsPart};
-ghost use Rattle.nk_run.specs.Alone.{Told, told_of};
+ghost use Rattle.nk_run.specs.Failures.{status_of, line_of, failure_of, IsFixed, TellsAny};
+ghost use Rattle.nk_run.specs.Runs.{Told, told_of};
 
-use crate::bad_frame::bad_frame;
-use itoa::Buffer;
+use crate::lines::{bad_frame, bad_line, bad_log};
 use nk_base::Memory;
 use nk_io::{Sink, WriteFault, write_all};
 use nk_script::Cause;
@@ -22,6 +21,8 @@ pub(crate) enum Failure {
     Line { number: u32, cause: Cause },
     /// The bytes are no sequence of frames: this frame is the first that is wrong.
     Frame(FrameError),
+    /// The log is none of the script's: this line, counted from 1, is the first that is not accepted.
+    Log(u32),
     /// The input has more than 16,777,216 bytes.
     TooLarge,
     /// The words have no meaning.
@@ -32,42 +33,6 @@ pub(crate) enum Failure {
     Write,
     /// Want of memory.
     Memory,
-}
-
-/// What is printed of a cause.
-fn cause_text(cause: Cause) -> &'static [u8]
-    ensures { result.now ≡ text_of cause }
-{
-    match cause {
-        Cause::Unexpected => b"unexpected",
-        Cause::Malformed => b"malformed",
-        Cause::Limit => b"limit",
-        Cause::EndsEarly => b"ends early",
-    }
-}
-
-/// Adds bytes to a text.
-fn append(text: &mut Vec<u8>, bytes: &[u8]) -> Result<(), Memory>
-    ensures { OnOk result (text.new.items ≡ text.old.items ++ bytes.now) }
-{
-    match text.extend_from_slice(bytes) {
-        Ok(()) => Ok(()),
-        Err(_) => Err(Memory),
-    }
-}
-
-/// The line that is printed of a script's first bad line.
-fn bad_line(alloc: Global, number: u32, cause: Cause) -> Result<Vec<u8>, Memory>
-    ensures { IfOk result (λ text. text.items ≡ bad_text number cause) }
-{
-    let mut digits = Buffer::new();
-    let mut text = Vec::new(alloc);
-    append(&mut text, b"error: line ")?;
-    append(&mut text, digits.format(number).as_bytes())?;
-    append(&mut text, b": ")?;
-    append(&mut text, cause_text(cause))?;
-    append(&mut text, b"\n")?;
-    Ok(text)
 }
 
 impl Failure {
@@ -88,6 +53,7 @@ impl Failure {
         match self {
             Failure::Line { .. } => 1,
             Failure::Frame(_) => 7,
+            Failure::Log(_) => 6,
             Failure::TooLarge => 1,
             Failure::Usage => 2,
             Failure::Read => 3,
@@ -104,6 +70,7 @@ impl Failure {
         match self {
             Failure::Line { .. } => unreachable!(),
             Failure::Frame(_) => unreachable!(),
+            Failure::Log(_) => unreachable!(),
             Failure::TooLarge => b"error: input too large\n",
             Failure::Usage => usage_line(),
             Failure::Read => b"error: read\n",
@@ -129,6 +96,7 @@ impl Failure {
         match self {
             Failure::Line { number, cause } => tell_line(1, bad_line(alloc, number, cause), err),
             Failure::Frame(error) => tell_line(7, bad_frame(alloc, error), err),
+            Failure::Log(number) => tell_line(6, bad_log(alloc, number), err),
             Failure::TooLarge => Failure::TooLarge.tell(err),
             Failure::Usage => Failure::Usage.tell(err),
             Failure::Read => Failure::Read.tell(err),

@@ -1,14 +1,11 @@
 // The command `frames`: one line for each frame of its input.
 
-ghost use Rattle.std.specs.Prelude.{ℕ, List, ◌≡◌, ◌≢◌, ◌≤◌, ◌<◌, ◌+◌, ◌^◌, ◌++◌, ◌⊎◌, Some, None, [], true, false, length, IfOk, IfErr, OnOk, IfSome, IsOkUnless};
-ghost use Rattle.nk_io.specs.Faults.{Rose, Quiet};
-ghost use Rattle.nk_io.specs.Given.{GivesCount, Exceeds};
+ghost use Rattle.std.specs.Prelude.{ℕ, List, ◌≡◌, ◌≢◌, ◌≤◌, ◌<◌, ◌+◌, ◌^◌, ◌++◌, None, [], true, false, length, IfOk, IfErr, OnOk};
 ghost use Rattle.nk_wire.specs.Streams.{first, Part};
-ghost use Rattle.nk_run.specs.Alone.{IsInput, Told, most_input, too_large, told_of};
 ghost use Rattle.nk_run.specs.Failures.{failure_of};
-ghost use Rattle.nk_run.specs.Frames.{any_text, frame_line, AreAllFrames, AreLines, AreNoFrames};
-ghost use Rattle.nk_run.specs.Playing.{IsEither};
-ghost use Rattle.nk_run.specs.Listing.{AreBytes, Listed, Stops, RefusesFrames, FramesFail, IsFrameOrMemory, PrintsFrames, PrintsFramesPart, TellsFrame};
+ghost use Rattle.nk_run.specs.Frames.{any_text, frame_line, AreLines};
+ghost use Rattle.nk_run.specs.Listing.{AreBytes, Listed, Stops, RefusesFrames, FramesFail, FramesRun};
+ghost use Rattle.nk_run.specs.Runs.{IsRead, IsRun, most_input, outcome};
 
 use crate::failure::{Failure, write_out};
 use crate::input::input_text;
@@ -152,15 +149,8 @@ fn list(alloc: Global, bytes: &[u8]) -> Result<Vec<u8>, Failure>
 
 /// The lines of the frames that the input is.
 fn frames<I: Source>(alloc: Global, input: &mut I) -> Result<Vec<u8>, Failure>
-    ensures lines { IfOk result (λ text.
-        IfSome (I.left input.old) (λ all. (I.left input.new ≡ Some []) × AreLines all text.items)) }
+    ensures lines { IfOk result (λ text. IsRead (I.left input.old) (I.left input.new) (λ all. AreLines all text.items)) }
     ensures fails { IfErr result (λ e. FramesFail e (I.left input.old) (I.left input.new) (I.faults input.old) (I.faults input.new)) }
-    ensures whole { IsInput (I.left input.old) AreAllFrames → Quiet (I.faults input.old) (I.faults input.new)
-        → IsOkUnless result Failure.Memory }
-    ensures none { IsInput (I.left input.old) AreNoFrames → Quiet (I.faults input.old) (I.faults input.new)
-        → IsFrameOrMemory result }
-    ensures overlong { Exceeds most_input (I.left input.old) → Quiet (I.faults input.old) (I.faults input.new)
-        → IsEither result Failure.TooLarge Failure.Memory }
 {
     let bytes = input_text(alloc, input)?;
     list(alloc, bytes.as_slice())
@@ -173,24 +163,15 @@ pub(crate) fn run_frames<I: Source, O: Sink, E: Sink>(
     out: &mut O,
     err: &mut E,
 ) -> u8
-    ensures statuses { ((result ≤ 5) ⊎ (result ≡ 7)) × (result ≢ 2) }
-    ensures printed { result ≡ 0 → PrintsFrames (I.left input.old) (I.left input.new) (O.got out.old) (O.got out.new) }
-    ensures cut { result ≡ 4 → PrintsFramesPart (I.left input.old) (I.left input.new) (O.got out.old) (O.got out.new) }
-    ensures wrong { result ≡ 7 → TellsFrame (I.left input.old) (I.left input.new)
-        (Told (E.got err.old) (E.got err.new) (E.faults err.old) (E.faults err.new)) }
-    ensures too_large { result ≡ 1 → GivesCount (I.left input.old) (I.left input.new) (most_input + 1)
-        × Told (E.got err.old) (E.got err.new) (E.faults err.old) (E.faults err.new) too_large }
-    ensures read { result ≡ 3 → Rose (I.faults input.old) (I.faults input.new) }
-    ensures write { result ≡ 4 → Rose (O.faults out.old) (O.faults out.new) }
-    ensures told { result ≢ 1 → result ≢ 7
-        → Told (E.got err.old) (E.got err.new) (E.faults err.old) (E.faults err.new) (told_of result) }
+    ensures answer { FramesRun (outcome result
+        (I.left input.old) (I.left input.new) (I.faults input.old) (I.faults input.new)
+        (O.got out.old) (O.got out.new) (O.faults out.old) (O.faults out.new)
+        (E.got err.old) (E.got err.new) (E.faults err.old) (E.faults err.new)) }
+    ensures run { IsRun (outcome result
+        (I.left input.old) (I.left input.new) (I.faults input.old) (I.faults input.new)
+        (O.got out.old) (O.got out.new) (O.faults out.old) (O.faults out.new)
+        (E.got err.old) (E.got err.new) (E.faults err.old) (E.faults err.new)) }
     ensures out { result ≢ 0 → result ≢ 4 → out.new ≡ out.old }
-    ensures whole { IsInput (I.left input.old) AreAllFrames → Quiet (I.faults input.old) (I.faults input.new)
-        → Quiet (O.faults out.old) (O.faults out.new) → (result ≡ 0) ⊎ (result ≡ 5) }
-    ensures none { IsInput (I.left input.old) AreNoFrames
-        → Quiet (I.faults input.old) (I.faults input.new) → (result ≡ 7) ⊎ (result ≡ 5) }
-    ensures overlong { Exceeds most_input (I.left input.old)
-        → Quiet (I.faults input.old) (I.faults input.new) → (result ≡ 1) ⊎ (result ≡ 5) }
 {
     match frames(alloc, input) {
         Ok(text) => write_out(text.as_slice(), out, err),

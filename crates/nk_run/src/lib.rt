@@ -4,13 +4,15 @@
 //! so with a script that it makes, and prints the summary. `frames` lists a sequence of frames.
 #![tactic(auto)]
 
-mod bad_frame;
 mod ends;
 mod failure;
 mod frames;
 mod input;
+mod laws;
+mod lines;
 mod made;
 mod play;
 mod run;
 
+pub use laws::play_law;
 pub use run::{refuse_words, run_alone};

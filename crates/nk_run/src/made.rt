@@ -1,12 +1,11 @@
 // The command `gen`: the summary of the channels of a made script.
 
-ghost use Rattle.std.specs.Prelude.{◌≡◌, ◌≢◌, ◌⊎◌, IfOk};
-ghost use Rattle.nk_io.specs.Faults.{Rose, Quiet};
+ghost use Rattle.std.specs.Prelude.{ℕ, List, Option, ◌≡◌, ◌≢◌, IfOk};
 ghost use Rattle.nk_gen.specs.Made.{made_script};
 ghost use Rattle.nk_script.specs.Answers.{IsPlayable};
 ghost use Rattle.nk_script.specs.Grammar.{IsTextOf};
-ghost use Rattle.nk_run.specs.Alone.{Told, told_of};
-ghost use Rattle.nk_run.specs.Making.{IsSummary, Sums, SumsPart};
+ghost use Rattle.nk_run.specs.Making.{IsSummary, GenRun};
+ghost use Rattle.nk_run.specs.Runs.{IsRun, outcome};
 
 use crate::ends::ends_of;
 use crate::failure::{Failure, write_out};
@@ -41,15 +40,15 @@ fn summed(alloc: Global, n: u32) -> Result<Vec<u8>, Memory>
     summary(alloc, &ends)
 }
 
-/// Plays the script that a number makes, prints the summary, and answers the program's status.
+/// Plays the script that a number makes, prints the summary, and answers the program's status. The input, whatever it is, stays.
 pub(crate) fn run_gen<O: Sink, E: Sink>(alloc: Global, n: u32, out: &mut O, err: &mut E) -> u8
-    ensures statuses { (result ≡ 0) ⊎ ((result ≡ 4) ⊎ (result ≡ 5)) }
-    ensures summed { result ≡ 0 → Sums n (O.got out.old) (O.got out.new) }
-    ensures cut { result ≡ 4 → SumsPart n (O.got out.old) (O.got out.new) }
-    ensures write { result ≡ 4 → Rose (O.faults out.old) (O.faults out.new) }
-    ensures told { Told (E.got err.old) (E.got err.new) (E.faults err.old) (E.faults err.new) (told_of result) }
+    ensures answer { (left : Option (List ℕ)) (faults : ℕ) → GenRun n (outcome result left left faults faults
+        (O.got out.old) (O.got out.new) (O.faults out.old) (O.faults out.new)
+        (E.got err.old) (E.got err.new) (E.faults err.old) (E.faults err.new)) }
+    ensures run { (left : Option (List ℕ)) (faults : ℕ) → IsRun (outcome result left left faults faults
+        (O.got out.old) (O.got out.new) (O.faults out.old) (O.faults out.new)
+        (E.got err.old) (E.got err.new) (E.faults err.old) (E.faults err.new)) }
     ensures out { result ≢ 0 → result ≢ 4 → out.new ≡ out.old }
-    ensures whole { Quiet (O.faults out.old) (O.faults out.new) → (result ≡ 0) ⊎ (result ≡ 5) }
 {
     match summed(alloc, n) {
         Ok(text) => write_out(text.as_slice(), out, err),

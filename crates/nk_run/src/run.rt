@@ -1,45 +1,20 @@
-// The program, from its words and the bytes of its input to the bytes that it prints.
+// The program, from its words and the bytes of its input to the bytes that it prints. A command is an arm of `run_alone`, and a
+// line of specs/Commands.antt.
 
-ghost use Rattle.std.specs.Prelude.{ℕ, Bool, Some, ◌≡◌, ◌≢◌, ◌≤◌, ◌⊎◌, ◌↔◌, map};
-ghost use Rattle.nk_io.specs.Faults.{Rose};
+ghost use Rattle.std.specs.Prelude.{ℕ, ◌≡◌, ◌≢◌, ◌↔◌, map};
+ghost use Rattle.nk_words.specs.declared.command.Command.{Command as Called};
 ghost use Rattle.nk_words.specs.declared.command.Command.TheVariants as command;
 ghost use Rattle.nk_words.specs.Words.{IsCallOf};
-ghost use Rattle.nk_run.specs.Alone.{HasMeaning, Told, told_of};
-ghost use Rattle.nk_run.specs.Listing.{FramesRun};
-ghost use Rattle.nk_run.specs.Making.{GenRun};
-ghost use Rattle.nk_run.specs.Playing.{PlayRun};
+ghost use Rattle.nk_run.specs.Commands.{answer_of, HasMeaning};
+ghost use Rattle.nk_run.specs.Runs.{IsRun, Told, told_of, outcome};
 
 use crate::failure::Failure;
 use crate::frames::run_frames;
 use crate::made::run_gen;
 use crate::play::run_play;
 use nk_io::{Sink, Source};
-use nk_words::{Command, read_words};
+use nk_words::{Command, Usage, read_words};
 use std::alloc::Global;
-
-/// A command that is built and needs no thread.
-enum Alone {
-    Play { log: bool },
-    Frames,
-    Gen(u32),
-}
-
-/// The command that the words call, where it is one of these.
-fn called(words: &[&str]) -> Option<Alone>
-    ensures play { (log : Bool) → (result ≡ Some (Alone.Play log)) ↔ IsCallOf (command.Play log) (map (λ word. word.now) words.now) }
-    ensures frames { (result ≡ Some Alone.Frames) ↔ IsCallOf command.Frames (map (λ word. word.now) words.now) }
-    ensures summary { (n : ℕ) → (result ≡ Some (Alone.Gen n)) ↔ IsCallOf (command.Gen n) (map (λ word. word.now) words.now) }
-{
-    match read_words(words) {
-        Ok(Command::Play { log }) => Some(Alone::Play { log }),
-        Ok(Command::Divert(_)) => None,
-        Ok(Command::Threads { .. }) => None,
-        Ok(Command::Frames) => Some(Alone::Frames),
-        Ok(Command::Gen(n)) => Some(Alone::Gen(n)),
-        Ok(Command::Check) => None,
-        Err(_) => None,
-    }
-}
 
 /// Runs the commands that need no thread, and answers the program's status (this project's own).
 ///
@@ -57,36 +32,31 @@ pub fn run_alone<I: Source, O: Sink, E: Sink>(
     out: &mut O,
     err: &mut E,
 ) -> u8
-    // What each command answers.
-    ensures play { (log : Bool) → IsCallOf (command.Play log) (map (λ word. word.now) words.now)
-        → PlayRun log result (I.left input.old) (I.left input.new) (I.faults input.old) (I.faults input.new)
+    // What each command answers, and what every run does.
+    ensures answer { (command : Called) → IsCallOf command (map (λ word. word.now) words.now) → answer_of command (outcome result
+        (I.left input.old) (I.left input.new) (I.faults input.old) (I.faults input.new)
         (O.got out.old) (O.got out.new) (O.faults out.old) (O.faults out.new)
-        (Told (E.got err.old) (E.got err.new) (E.faults err.old) (E.faults err.new)) }
-    ensures frames { IsCallOf command.Frames (map (λ word. word.now) words.now)
-        → FramesRun result (I.left input.old) (I.left input.new) (I.faults input.old) (I.faults input.new)
+        (E.got err.old) (E.got err.new) (E.faults err.old) (E.faults err.new)) }
+    ensures run { IsRun (outcome result
+        (I.left input.old) (I.left input.new) (I.faults input.old) (I.faults input.new)
         (O.got out.old) (O.got out.new) (O.faults out.old) (O.faults out.new)
-        (Told (E.got err.old) (E.got err.new) (E.faults err.old) (E.faults err.new)) }
-    ensures summary { (n : ℕ) → IsCallOf (command.Gen n) (map (λ word. word.now) words.now)
-        → GenRun n result (O.got out.old) (O.got out.new) (O.faults out.old) (O.faults out.new) }
+        (E.got err.old) (E.got err.new) (E.faults err.old) (E.faults err.new)) }
 
-    // 2: the words. 3, 4: faults. There is no other status than those up to 5 and 7.
-    ensures statuses { (result ≤ 5) ⊎ (result ≡ 7) }
+    // 2: the words have no meaning.
     ensures usage { (result ≡ 2) ↔ (¬ HasMeaning (map (λ word. word.now) words.now)) }
-    ensures read { result ≡ 3 → Rose (I.faults input.old) (I.faults input.new) }
-    ensures write { result ≡ 4 → Rose (O.faults out.old) (O.faults out.new) }
 
-    // What err gets, where its text is that of the status, and what stays as it was.
-    ensures told { result ≢ 1 → result ≢ 7
-        → Told (E.got err.old) (E.got err.new) (E.faults err.old) (E.faults err.new) (told_of result) }
+    // What stays as it was.
     ensures out { result ≢ 0 → result ≢ 4 → out.new ≡ out.old }
     ensures input { result ≡ 2 → input.new ≡ input.old }
     ensures gen_input { (n : ℕ) → IsCallOf (command.Gen n) (map (λ word. word.now) words.now) → input.new ≡ input.old }
 {
-    match called(words) {
-        Some(Alone::Play { log }) => run_play(alloc, log, input, out, err),
-        Some(Alone::Frames) => run_frames(alloc, input, out, err),
-        Some(Alone::Gen(n)) => run_gen(alloc, n, out, err),
-        None => Failure::Usage.tell(err),
+    match read_words(words) {
+        Ok(Command::Play { log }) => run_play(alloc, log, input, out, err),
+        Ok(Command::Frames) => run_frames(alloc, input, out, err),
+        Ok(Command::Gen(n)) => run_gen(alloc, n, out, err),
+        Ok(Command::Divert(_)) | Ok(Command::Threads { .. }) | Ok(Command::Check) | Err(Usage) => {
+            Failure::Usage.tell(err)
+        }
     }
 }
 

@@ -1,9 +1,11 @@
-// The line that is printed of the first frame that is wrong.
+// The lines that are printed of an input that is wrong: each says where.
 
 ghost use Rattle.std.specs.Prelude.{◌≡◌, ◌++◌, ◌∷◌, decimal, OnOk, IfOk};
+ghost use Rattle.nk_run.specs.Failures.{bad_line as line_text, bad_log as log_text, cause_text as text_of};
 ghost use Rattle.nk_run.specs.Frames.{bad_frame as frame_text, decode_text, frame_cause_text};
 
 use nk_base::Memory;
+use nk_script::Cause;
 use nk_trace::Printer;
 use nk_wire::{DecodeError, FrameCause, FrameError};
 use std::alloc::Global;
@@ -24,6 +26,40 @@ fn print_number(printer: &mut Printer, label: &str, number: u32) -> Result<(), M
 {
     printer.word(label)?;
     printer.decimal(u64::from(number))
+}
+
+/// What is printed of a cause.
+fn cause_text(cause: Cause) -> &'static str
+    ensures { result.now ≡ text_of cause }
+{
+    match cause {
+        Cause::Unexpected => "unexpected",
+        Cause::Malformed => "malformed",
+        Cause::Limit => "limit",
+        Cause::EndsEarly => "ends early",
+    }
+}
+
+/// The line that is printed of a script's first bad line.
+pub(crate) fn bad_line(alloc: Global, number: u32, cause: Cause) -> Result<Vec<u8>, Memory>
+    ensures { IfOk result (λ text. text.items ≡ line_text number cause) }
+{
+    let mut printer = Printer::new(alloc);
+    print_number(&mut printer, "error: line ", number)?;
+    printer.word(": ")?;
+    printer.word(cause_text(cause))?;
+    printer.line_feed()?;
+    Ok(printer.into_bytes())
+}
+
+/// The line that is printed of a log's first line that is not accepted.
+pub(crate) fn bad_log(alloc: Global, number: u32) -> Result<Vec<u8>, Memory>
+    ensures { IfOk result (λ text. text.items ≡ log_text number) }
+{
+    let mut printer = Printer::new(alloc);
+    print_number(&mut printer, "error: log line ", number)?;
+    printer.line_feed()?;
+    Ok(printer.into_bytes())
 }
 
 /// Prints why a rest is no message.
