@@ -1,4 +1,4 @@
-use Rattle.std.proofs.Common.{◌≡◌, ◌≢◌, ◌↔◌, ℕ, Bool, List, Result, Ok, Err, subst, inl, inr}
+use Rattle.std.proofs.Common.{◌≡◌, ◌≢◌, ◌↔◌, ℕ, Bool, List, Result, Ok, subst, inl, inr}
 use Rattle.nk_words.specs.declared.command.Command.{Command}
 use Rattle.nk_words.specs.declared.command.Command.TheVariants.{Play, Frames, Gen}
 use Rattle.nk_words.specs.declared.command.Usage.{Usage}

@@ -1,4 +1,4 @@
-use Rattle.std.proofs.Common.{◌≡◌, ◌≢◌, ◌≤◌, ◌<◌, ◌+◌, ◌*◌, ℕ, zero, suc, refl, sym, ap, subst, ◌∙◌, List, [], ◌∷◌, length, map, drop, get_or, sum_by, slice_get, All, Option, Some, None, Result, Ok, Err, IfOk, Vec, Global, arith}
+use Rattle.std.proofs.Common.{◌≡◌, ◌≢◌, ◌≤◌, ◌<◌, ◌+◌, ◌*◌, ℕ, sym, ap, subst, ◌∙◌, List, [], ◌∷◌, length, map, drop, get_or, sum_by, All, Result, Ok, Err, IfOk, Vec, Global, arith}
 use Rattle.std.specs.List.{AllZip}
 use Rattle.std.proofs.lemmas.List.{drop_more, length-append, length-replicate}
 use Rattle.std.proofs.lemmas.List.Elements.{All-nil, All-cons, All-head, All-tail, All-replicate}
@@ -11,7 +11,6 @@ use Rattle.nk_plan.specs.declared.plan.ListenerKind.TheVariants as listener
 use Rattle.nk_plan.specs.declared.ends.ChannelEnd.{ChannelEnd}
 use Rattle.nk_plan.specs.declared.ends.ReaderEnd.{ReaderEnd}
 use Rattle.nk_plan.specs.declared.ends.Ending.TheVariants as ending
-use Rattle.nk_plan.specs.declared.step.Step.{Step}
 use Rattle.nk_plan.specs.Accepted.{Accepted, IsGoodListener, body_size}
 use Rattle.nk_script.specs.declared.script.Script.{Script}
 use Rattle.nk_script.specs.declared.script.ScheduleItem.{ScheduleItem}

@@ -1,5 +1,4 @@
-use Rattle.std.proofs.Common.{◌≡◌, List, [], ◌∷◌, map, All, ◌∙◌, refl, ap, subst}
-use Rattle.nk_plan.specs.declared.ends.ChannelEnd.{ChannelEnd}
+use Rattle.std.proofs.Common.{List, [], ◌∷◌, map, All, ◌∙◌, refl, ap, subst}
 use Rattle.nk_script.specs.declared.script.Script.{Script}
 use Rattle.nk_script.specs.declared.script.ScheduleItem.{ScheduleItem}
 use Rattle.nk_script_law.specs.Laws.{ScriptLaw}
