@@ -55,12 +55,12 @@ pub fn run_alone<I: Source, O: Sink, E: Sink>(
         Ok(Command::Frames) => run_frames(alloc, input, out, err),
         Ok(Command::Gen(n)) => run_gen(alloc, n, out, err),
         Ok(Command::Divert(_)) | Ok(Command::Threads { .. }) | Ok(Command::Check) | Err(Usage) => {
-            Failure::Usage.tell(err)
+            refuse_words(err)
         }
     }
 }
 
-/// Answers words that are no text: the usage line, and status 2 (this project's own).
+/// Answers words without a meaning, and such as are no text: the usage line, and status 2 (this project's own).
 pub fn refuse_words<E: Sink>(err: &mut E) -> u8
     ensures status { result ≡ 2 }
     ensures told { Told (E.got err.old) (E.got err.new) (E.faults err.old) (E.faults err.new) (told_of 2) }

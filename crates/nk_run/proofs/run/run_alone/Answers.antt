@@ -40,4 +40,4 @@ pub returns-in-Ok-Divert-clause-answer : goal.returns-in-Ok-Divert-clause-answer
 returns-in-Ok-Divert-clause-answer g c = search rules
 
 pub returns-in-Ok-Divert-clause-usage : goal.returns-in-Ok-Divert-clause-usage
-returns-in-Ok-Divert-clause-usage g c = unmeant _ _ c.tell.ensures.status (returns-in-Ok-Divert-clause-answer g c)
+returns-in-Ok-Divert-clause-usage g c = unmeant _ _ c.refuse_words.ensures.status (returns-in-Ok-Divert-clause-answer g c)
