@@ -1,4 +1,5 @@
 pub mod Channels
+pub mod Scripts
 pub mod Tells
 pub mod Listings
 pub mod Runs
