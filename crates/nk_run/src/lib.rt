@@ -1,7 +1,8 @@
 //! The program of necklane, from its words and the bytes of its input to the bytes that it prints.
 //!
 //! `play` reads a script, moves its channels by the schedule and the drain, and prints the report of their ends; `gen` does
-//! so with a script that it makes, and prints the summary. `frames` lists a sequence of frames.
+//! so with a script that it makes, and prints the summary. `frames` lists a sequence of frames. A law says that a script has
+//! one play.
 #![tactic(auto)]
 
 mod ends;
