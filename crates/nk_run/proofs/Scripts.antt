@@ -4,7 +4,7 @@ use Rattle.nk_script.specs.declared.script.Cause.{Cause}
 use Rattle.nk_script.specs.declared.script.ScriptError.{ScriptError}
 use Rattle.nk_script.specs.declared.script.ScriptError.TheVariants as error
 use Rattle.nk_script.specs.Answers.{Blames, IsScriptOrMemory}
-use Rattle.nk_script.specs.Grammar.{IsTextOf, IsFirstBadLine}
+use Rattle.nk_script.specs.Grammar.{IsFirstBadLine}
 
 -- no line of a script's text is refused
 pub never_refused : (r : Result Script ScriptError) (s : Script) (e : ScriptError) (number : ℕ) (why : Cause) → IsScriptOrMemory r s → r ≡ Err e → e ≡ error.Line number why → ⊥
