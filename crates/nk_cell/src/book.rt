@@ -75,6 +75,7 @@ impl ChildBook {
         } }
     {
         child_room_law();
+        // For the fact that it is accepted.
         let _ = child.plan();
         ChildBook {
             alloc,
@@ -132,6 +133,7 @@ impl ChildBook {
             Step::Finish(target) => self.turn(ChildStep::Finish(target)),
             Step::Fetch | Step::Up | Step::Forward | Step::Read(_) => unreachable!(),
         };
+        // A look at a field, by which what the type keeps is known here.
         let _ = &self.number;
         moved
     }

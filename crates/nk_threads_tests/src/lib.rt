@@ -4,4 +4,6 @@
 #![tactic(auto)]
 
 #[cfg(test)]
+mod child_book;
+#[cfg(test)]
 mod sink_book;
