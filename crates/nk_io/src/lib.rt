@@ -6,6 +6,7 @@
 mod calls;
 mod memory_sink;
 mod memory_source;
+mod retrying;
 mod sink;
 mod source;
 mod standard;

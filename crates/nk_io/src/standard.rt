@@ -6,6 +6,7 @@ ghost use Rattle.nk_io.specs.Left.{OnTook, OnEnd, OnFailed};
 ghost use Rattle.nk_io.specs.Got.{Gains, OnPut, OnFailed as OnPutFailed};
 ghost use Rattle.nk_io.specs.Standard.{reader, reader_faults, writer, writer_faults};
 
+use crate::retrying::{read_again, write_again};
 use crate::sink::{Put, Sink};
 use crate::source::{Source, Take};
 use std::io::{Read, Write};
@@ -48,7 +49,7 @@ impl<R: Read> Source for StdSource<R> {
         ensures count_at_end { OnEnd result (reader_faults self.new ≡ reader_faults self.old) }
         ensures count_failed { OnFailed result (reader_faults self.new ≡ one_more (reader_faults self.old)) }
     {
-        match self.inner.read(buffer) {
+        match read_again(&mut self.inner, buffer) {
             Ok(0) => Take::End,
             Ok(count) => Take::Took(count),
             Err(_) => {
@@ -101,7 +102,7 @@ impl<W: Write> Sink for StdSink<W> {
         ensures count { OnPut result (λ _. writer_faults self.new ≡ writer_faults self.old) }
         ensures count_failed { OnPutFailed result (writer_faults self.new ≡ one_more (writer_faults self.old)) }
     {
-        match self.inner.write(bytes) {
+        match write_again(&mut self.inner, bytes) {
             Ok(count) if count > 0 => Put::Put(count),
             _ => {
                 self.faults = self.faults.saturating_add(1);
