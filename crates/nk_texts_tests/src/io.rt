@@ -40,6 +40,53 @@ impl Write for Full {
     }
 }
 
+/// A reader of 3 bytes, and a writer of all, that a signal first interrupts so often.
+#[derive(Drop)]
+struct Interrupted {
+    times: u32,
+    is_read: bool,
+}
+
+impl Interrupted {
+    fn new(times: u32) -> Interrupted {
+        Interrupted {
+            times,
+            is_read: false,
+        }
+    }
+
+    fn meet_a_signal(&mut self) -> io::Result<()> {
+        if self.times == 0 {
+            return Ok(());
+        }
+        self.times -= 1;
+        Err(io::Error::from(io::ErrorKind::Interrupted))
+    }
+}
+
+impl Read for Interrupted {
+    fn read(&mut self, buf: &mut [u8]) -> io::Result<usize> {
+        self.meet_a_signal()?;
+        if self.is_read || buf.len() < 3 {
+            return Ok(0);
+        }
+        self.is_read = true;
+        buf[..3].copy_from_slice(b"abc");
+        Ok(3)
+    }
+}
+
+impl Write for Interrupted {
+    fn write(&mut self, buf: &[u8]) -> io::Result<usize> {
+        self.meet_a_signal()?;
+        Ok(buf.len())
+    }
+
+    fn flush(&mut self) -> io::Result<()> {
+        Ok(())
+    }
+}
+
 /// Bytes that a source gives, so many per call, failing at the calls of these numbers, from 1 on; the limit under which
 /// they are read; and why they are not.
 type Reading = (&'static [u8], usize, [u64; 2], u32, Option<ReadError>);
@@ -305,4 +352,22 @@ fn a_reader_that_breaks_and_a_writer_that_is_full_are_faults(rt: HostRuntime) {
         reads_from(rt.alloc(), Breaking { reads: 0 }, b"", FAULT),
     );
     right(&rt, !writes_to(Full, b"abc"));
+}
+
+// Whether a reader of `abc` is read, and a writer written, though a signal interrupts each so often.
+fn is_done_through(alloc: Global, times: u32) -> bool {
+    reads_from(alloc, Interrupted::new(times), b"abc", None)
+        && writes_to(Interrupted::new(times), b"abc")
+}
+
+// Whether the reader fails.
+fn is_fault_through(alloc: Global, times: u32) -> bool {
+    reads_from(alloc, Interrupted::new(times), b"", FAULT)
+}
+
+#[test]
+fn an_interrupted_call_is_made_again_so_often_and_no_more(rt: HostRuntime) {
+    right(&rt, is_done_through(rt.alloc(), 1));
+    right(&rt, is_done_through(rt.alloc(), 200));
+    right(&rt, is_fault_through(rt.alloc(), 65_537));
 }
