@@ -1,5 +1,5 @@
 -- The plans of channels, as their lines come.
-use Rattle.std.proofs.Common.{◌≡◌, ◌≤◌, ◌<◌, ◌+◌, ◌-◌, ◌*◌, ℕ, zero, suc, true, false, Bool, List, [], ◌∷◌, ◌++◌, length, take, slice_get, All, Option, Some, None, IsSomeAnd, refl, sym, ap, subst, ◌∙◌, arith, length-append, option_to_list, ◌&&◌}
+use Rattle.std.proofs.Common.{◌≡◌, ◌≤◌, ◌<◌, ◌+◌, ◌-◌, ℕ, true, false, Bool, List, [], ◌∷◌, ◌++◌, length, take, slice_get, All, Option, Some, None, IsSomeAnd, refl, sym, ap, subst, ◌∙◌, arith, length-append, option_to_list, ◌&&◌}
 use Rattle.std.specs.List.{sum_by}
 use Rattle.std.specs.Option.{option_map}
 use Rattle.std.proofs.Math.Seq.{take-append_seam}
@@ -15,7 +15,6 @@ use Rattle.nk_plan.specs.declared.plan.Hop.{Hop}
 use Rattle.nk_plan.specs.declared.plan.Hop.TheVariants as plan
 use Rattle.nk_plan.specs.declared.plan.ChannelPlan.{ChannelPlan}
 use Rattle.nk_plan.specs.declared.plan.Verdict.{Verdict}
-use Rattle.nk_plan.specs.declared.plan.Finish.{Finish}
 use Rattle.nk_plan.specs.declared.plan.Finish.TheVariants as finish
 use Rattle.nk_plan.specs.declared.plan.ListenerKind.{ListenerKind}
 use Rattle.nk_plan.specs.declared.plan.ListenerKind.TheVariants as listener
@@ -27,7 +26,6 @@ use Rattle.nk_script.specs.Responses.{ResponseParts}
 use Rattle.nk_script.specs.declared.draft.Draft.{Draft}
 use Rattle.nk_script.specs.Draft.{hop_of, plan_of, with_hop, with_response, new_response, response_count}
 use Rattle.nk_script.specs.declared.line.HopLine.TheVariants as hop
-use Rattle.nk_script.proofs.Ranged.{IsGoodEnd}
 
 -- LISTS
 

@@ -1,4 +1,3 @@
-pub mod Decimals
 pub mod Hex
 pub mod Ascii
 pub mod WordsOf
@@ -13,3 +12,5 @@ pub mod Ranged
 pub mod Drafts
 pub mod Playable
 pub mod Places
+pub mod Placing
+pub mod Logs

@@ -3,7 +3,6 @@ use Rattle.std.proofs.Common.{◌≡◌, ◌≤◌, ◌<◌, ℕ, true, false, B
 use Rattle.std.specs.Option.{option_map_or}
 use Rattle.nk_plan.specs.declared.plan.ChannelPlan.{ChannelPlan}
 use Rattle.nk_plan.specs.declared.plan.Finish.{Finish}
-use Rattle.nk_plan.specs.declared.plan.StartLane.{StartLane}
 use Rattle.nk_plan.specs.Accepted.{Accepted, IsGoodFinish}
 use Rattle.nk_script.specs.declared.draft.Draft.{Draft}
 use Rattle.nk_script.specs.declared.line.Keyword.{Keyword}
@@ -11,7 +10,7 @@ use Rattle.nk_script.specs.declared.line.Keyword.TheVariants as key
 use Rattle.nk_script.specs.declared.line.Place.{Place}
 use Rattle.nk_script.specs.declared.line.Place.TheVariants as place
 use Rattle.nk_script.specs.Responses.{ResponseParts}
-use Rattle.nk_script.specs.Order.{allows, behind, behind_reaction, may_end, is_script, is_channel, is_number}
+use Rattle.nk_script.specs.Order.{allows, behind_reaction, may_end, is_script, is_channel, is_number}
 use Rattle.nk_script.specs.Draft.{plan_of, response_count}
 use Rattle.nk_script.proofs.Drafts.{IsOpening, IsResponding, IsWhole, IsCalled, response_whole}
 

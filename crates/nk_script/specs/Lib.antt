@@ -1,10 +1,10 @@
 pub mod Responses
 pub mod Texts
+pub mod Placed
 pub mod Numbers
 pub mod Lines
 pub mod Order
 pub mod Draft
 pub mod Grammar
-pub mod Starts
 pub mod Answers
 pub mod LineLaws

@@ -1,4 +1,4 @@
-// Lines whose last part is the rest of the line: fields, trailers and pieces.
+// What stands behind a prefix, the field that a text is, and the piece that bytes are.
 
 ghost use Rattle.std.specs.Prelude.{◌≡◌, ◌++◌, ℕ, List, None, Some, IfSome, IfOk, MatchOption};
 ghost use Rattle.std.specs.Option.{option_copied};
@@ -45,11 +45,11 @@ fn make_field(alloc: Global, name: &[u8], value: &[u8]) -> Result<Field, Memory>
     Ok(Field { name, value })
 }
 
-// The piece of these bytes, where they are neither none nor too many.
-pub(crate) fn read_piece(alloc: Global, bytes: &[u8]) -> Result<Option<Piece>, Memory>
-    ensures { IfOk result (λ found. MatchOption found (¬ IsPiece bytes.now) (λ piece. (piece ≡ bytes.now) × IsPiece bytes.now)) }
+// The piece of these bytes, which has a block of its own, where they are neither none nor too many.
+pub(crate) fn piece_of(bytes: Vec<u8>) -> Result<Option<Piece>, Memory>
+    ensures { IfOk result (λ found. MatchOption found (¬ IsPiece bytes.items) (λ piece. (piece ≡ bytes.items) × IsPiece bytes.items)) }
 {
-    match Piece::new(alloc, bytes) {
+    match Piece::from_vec(bytes) {
         Ok(piece) => Ok(Some(piece)),
         Err(PieceError::Empty) => Ok(None),
         Err(PieceError::TooLong) => Ok(None),

@@ -1,6 +1,6 @@
 // What the words of a line say.
 
-ghost use Rattle.std.specs.Prelude.{◌≡◌, ◌∷◌, [], ℕ, map, codes, Some, IfSome};
+ghost use Rattle.std.specs.Prelude.{◌≡◌, ◌≢◌, ◌∷◌, [], ℕ, List, map, codes, Some, IfSome, MatchOption};
 ghost use Rattle.nk_base.specs.declared.status.Target.{Target as AnyTarget};
 ghost use Rattle.nk_plan.specs.declared.plan.Act.{Act as AnyAct};
 ghost use Rattle.nk_plan.specs.declared.plan.Control.{Control as AnyControl};
@@ -12,7 +12,7 @@ ghost use Rattle.nk_script.specs.declared.line.HopLine.{HopLine as AnyHop};
 ghost use Rattle.nk_script.specs.Lines.{IsWorkerWord, IsTargetWord, IsHop, IsEnd, IsListener, IsReaction, IsAct, IsControl, IsStep};
 
 use crate::line::HopLine;
-use crate::number::{read_decimal, read_status};
+use crate::number::{read_number, read_status};
 use nk_base::Target;
 use nk_plan::{Act, ChannelPlan, Control, Finish, ListenerKind, Reaction, Step, Verdict};
 
@@ -21,10 +21,14 @@ fn read_worker(word: &str) -> Option<u8>
     ensures worker { IfSome result (IsWorkerWord word.now) }
     ensures each { (worker : ℕ) → IsWorkerWord word.now worker → result ≡ Some worker }
 {
-    match word.as_bytes() {
-        [b'w', digits @ ..] => Some(read_decimal(digits, 1, 16)? as u8),
-        _ => None,
-    }
+    Some(read_number(behind_w(word)?, 1, 16)? as u8)
+}
+
+// What stands behind `w`, where the word begins so.
+fn behind_w(word: &str) -> Option<&str>
+    ensures { MatchOption result ((rest : List ℕ) → word.now ≢ 119 ∷ rest) (λ rest. word.now ≡ 119 ∷ rest.now) }
+{
+    word.strip_prefix('w')
 }
 
 // A target of a step, `main` or a worker.
@@ -58,7 +62,7 @@ fn read_last_hop(kind: &str, argument: &str) -> Option<HopLine>
 {
     match kind {
         "fail" => Some(HopLine::Fail(read_status(argument.as_bytes())?)),
-        "response" => Some(HopLine::Response(read_decimal(argument.as_bytes(), 100, 999)? as u16)),
+        "response" => Some(HopLine::Response(read_number(argument, 100, 999)? as u16)),
         _ => None,
     }
 }
@@ -69,7 +73,7 @@ fn read_allowed_redirect(code: &str) -> Option<HopLine>
     ensures each { (hop : AnyHop) → IsHop (codes "redirect" ∷ code.now ∷ codes "allow" ∷ []) hop → result ≡ Some hop }
 {
     Some(HopLine::Redirect {
-        code: read_decimal(code.as_bytes(), 300, 399)? as u16,
+        code: read_number(code, 300, 399)? as u16,
         verdict: Verdict::Allow,
     })
 }
@@ -80,7 +84,7 @@ fn read_vetoed_redirect(code: &str, status: &str) -> Option<HopLine>
     ensures each { (hop : AnyHop) → IsHop (codes "redirect" ∷ code.now ∷ codes "veto" ∷ status.now ∷ []) hop → result ≡ Some hop }
 {
     Some(HopLine::Redirect {
-        code: read_decimal(code.as_bytes(), 300, 399)? as u16,
+        code: read_number(code, 300, 399)? as u16,
         verdict: Verdict::Veto(read_status(status.as_bytes())?),
     })
 }
@@ -115,9 +119,9 @@ fn read_pipe(segment: &str, limit: &str, readers: &str) -> Option<ListenerKind>
     ensures each { (listener : AnyListener) → IsListener (codes "pipe" ∷ segment.now ∷ limit.now ∷ readers.now ∷ []) listener → result ≡ Some listener }
 {
     Some(ListenerKind::Pipe {
-        segment: read_decimal(segment.as_bytes(), 4, 65_536)?,
-        limit: read_decimal(limit.as_bytes(), 1, 1024)?,
-        readers: read_decimal(readers.as_bytes(), 1, 8)? as u8,
+        segment: read_number(segment, 4, 65_536)?,
+        limit: read_number(limit, 1, 1024)?,
+        readers: read_number(readers, 1, 8)? as u8,
     })
 }
 
@@ -153,7 +157,7 @@ fn read_bytes_fail(nth: &str, status: &str) -> Option<Reaction>
     ensures each { (reaction : AnyReaction) → IsReaction (codes "data" ∷ nth.now ∷ codes "fail" ∷ status.now ∷ []) reaction → result ≡ Some reaction }
 {
     Some(Reaction::BytesFail {
-        nth: read_decimal(nth.as_bytes(), 1, 65_536)?,
+        nth: read_number(nth, 1, 65_536)?,
         status: read_status(status.as_bytes())?,
     })
 }
@@ -191,7 +195,7 @@ pub(crate) fn read_control(words: &[&str]) -> Option<Control>
 {
     match words {
         [after, act @ ..] => Some(Control {
-            after: read_decimal(after.as_bytes(), 0, ChannelPlan::MOST_AFTER)?,
+            after: read_number(after, 0, ChannelPlan::MOST_AFTER)?,
             act: read_act(act)?,
         }),
         [] => None,
@@ -236,7 +240,7 @@ fn read_step_with(word: &str, argument: &str) -> Option<Step>
     match word {
         "begin" => Some(Step::Begin(read_target(argument)?)),
         "finish" => Some(Step::Finish(read_target(argument)?)),
-        "read" => Some(Step::Read(read_decimal(argument.as_bytes(), 1, 8)? as u8)),
+        "read" => Some(Step::Read(read_number(argument, 1, 8)? as u8)),
         _ => None,
     }
 }

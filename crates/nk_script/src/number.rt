@@ -2,45 +2,21 @@
 
 ghost use Rattle.std.specs.Prelude.{◌≡◌, ◌^◌, ◌<◌, ◌↔◌, ℕ, length, true, Some, IsTrue, IfSome};
 ghost use Rattle.std.specs.List.{list_all};
-ghost use Rattle.std.specs.Fmt.{decimal};
 ghost use Rattle.std.specs.Str.Parse.{digits_value};
 ghost use Rattle.nk_base.specs.declared.status.Status.{Status as AnyStatus};
 ghost use Rattle.nk_script.specs.Numbers.{IsDecimal, IsCount, IsStatus, IsByte, is_digit, is_hex_digit};
-ghost use Rattle.nk_script.specs.Starts.{HasPlainStart};
 
 use nk_base::Status;
+use nk_words::read_decimal;
 
 // The number in this range that the word spells, without a sign or a leading zero.
-pub(crate) fn read_decimal(word: &[u8], least: u32, most: u32) -> Option<u32>
+pub(crate) fn read_number(word: &str, least: u32, most: u32) -> Option<u32>
     ensures number { IfSome result (IsDecimal least most word.now) }
     ensures each { (n : ℕ) → IsDecimal least most word.now n → result ≡ Some n }
 {
-    match read_any_decimal(word) {
+    match read_decimal(word) {
         Some(number) if least <= number && number <= most => Some(number),
         _ => None,
-    }
-}
-
-// The number that the word spells, without a sign or a leading zero.
-fn read_any_decimal(word: &[u8]) -> Option<u32>
-    ensures { (n : ℕ) → n < 2 ^ 32 → (result ≡ Some n) ↔ (word.now ≡ decimal n) }
-{
-    if !has_plain_start(word) {
-        return None;
-    }
-    match str::from_utf8(word) {
-        Ok(text) => text.parse().ok(),
-        Err(_) => None,
-    }
-}
-
-// The word has no sign and no leading zero.
-fn has_plain_start(word: &[u8]) -> bool
-    ensures { IsTrue result ↔ HasPlainStart word.now }
-{
-    match word {
-        [b'0'] | [b'1'..=b'9', ..] => true,
-        _ => false,
     }
 }
 

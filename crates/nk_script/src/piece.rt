@@ -11,7 +11,9 @@ use std::alloc::Global;
 pub(crate) fn read_bytes(alloc: Global, digits: &[u8]) -> Result<Option<Vec<u8>>, Memory>
     ensures { IfOk result (λ found. MatchOption found ((bytes : List ℕ) → ¬ IsBytes digits.now bytes) (λ all. IsBytes digits.now all.items × ((bytes : List ℕ) → IsBytes digits.now bytes → all.items ≡ bytes))) }
 {
-    let mut all = Vec::new(alloc);
+    let Ok(mut all) = Vec::with_capacity(alloc, digits.len() / 2) else {
+        return Err(Memory);
+    };
     let mut rest = digits;
     while rest.len() > 1 {
         let (pair, more) = rest.split_at(2);

@@ -1,15 +1,14 @@
-// A script is read line by line.
+// How a line is taken in, and what was read in the end.
 
-ghost use Rattle.std.specs.Prelude.{◌≡◌, ◌≤◌, ◌<◌, ◌^◌, ℕ, length, IfOk, IfErr};
+ghost use Rattle.std.specs.Prelude.{◌≡◌, ◌≤◌, length, IfOk};
 ghost use Rattle.nk_script.specs.declared.line.Line.{Line as AnyLine};
-ghost use Rattle.nk_script.specs.declared.script.Cause.{Cause as AnyCause};
-ghost use Rattle.nk_script.specs.declared.script.Script.{Script as AnyScript};
 ghost use Rattle.nk_script.specs.Draft.{plans_of, IsComplete, EndsComplete};
-ghost use Rattle.nk_script.specs.Grammar.{Stands, IsTextOf, IsFirstBadLine, script_of};
-ghost use Rattle.nk_script.specs.Answers.{IsLineAnswer, Blames, IsScriptOrMemory, IsErrorOrMemory, IsPlayable, error_at};
+ghost use Rattle.nk_script.specs.Grammar.{Stands, script_of};
+ghost use Rattle.nk_script.specs.Answers.{IsLineAnswer, error_at};
 ghost use Rattle.nk_script.specs.Texts.{before, behind_line};
 
 use crate::keyword::read_keyword;
+use crate::placed::PlacedText;
 use crate::read_line::read_line;
 use crate::reader::Reader;
 use crate::script::{Cause, Script, ScriptError};
@@ -28,7 +27,7 @@ pub enum Refusal {
 
 impl Refusal {
     // The error of the line of this number.
-    fn at_line(self, number: u32) -> ScriptError
+    pub(crate) fn at_line(self, number: u32) -> ScriptError
         ensures { result ≡ error_at number self }
     {
         match self {
@@ -39,7 +38,7 @@ impl Refusal {
 }
 
 // The first line of a text, and the text behind it.
-fn first_line(text: &[u8]) -> (&[u8], &[u8])
+pub(crate) fn first_line(text: &[u8]) -> (&[u8], &[u8])
     ensures line { result.0.now ≡ before 10 text.now }
     ensures rest { result.1.now ≡ behind_line text.now }
 {
@@ -51,12 +50,12 @@ fn first_line(text: &[u8]) -> (&[u8], &[u8])
 
 impl Reader {
     // Takes in the next line.
-    pub(crate) fn read_next(&mut self, alloc: Global, text: &[u8]) -> Result<(), Refusal>
+    pub(crate) fn read_next(&mut self, alloc: Global, text: &PlacedText) -> Result<(), Refusal>
         requires few { length (plans_of self.old) ≤ 1024 }
         requires complete { (line : AnyLine) → Stands self.old text.now line → EndsComplete self.old line }
         ensures { IsLineAnswer self.old text.now result self.new }
     {
-        let (word, _) = cut(text, b' ');
+        let (word, _) = cut(text.as_slice(), b' ');
         let Some(keyword) = read_keyword(word) else {
             return Err(Refusal::Line(Cause::Unexpected));
         };
@@ -79,7 +78,7 @@ impl Reader {
     }
 
     // The script that was read.
-    fn into_script(mut self) -> Result<Script, Memory>
+    pub(crate) fn into_script(mut self) -> Result<Script, Memory>
         requires { IsComplete self }
         ensures { IfOk result (λ script. script ≡ script_of self) }
     {
@@ -88,39 +87,5 @@ impl Reader {
             plans: self.plans,
             schedule: self.schedule,
         })
-    }
-}
-
-/// The script that the text stands for.
-///
-/// The error names the first line, counted from 1, that cannot stand after the lines before it, and why. There is one
-/// such line, with one cause, exactly where the text stands for no script.
-pub fn read_script(alloc: Global, text: &[u8]) -> Result<Script, ScriptError>
-    requires { length text.now < 2 ^ 31 }
-    ensures script { IfOk result (λ script. IsTextOf script text.now) }
-    ensures playable { IfOk result IsPlayable }
-    ensures every { (script : AnyScript) → IsTextOf script text.now → IsScriptOrMemory result script }
-    ensures line { IfErr result (Blames text.now) }
-    ensures only { (number : ℕ) (cause : AnyCause) → IsFirstBadLine text.now number cause → IsErrorOrMemory result number cause }
-{
-    let mut reader = Reader::new(alloc);
-    let mut rest = text;
-    let mut number: u32 = 1;
-    while !rest.is_empty() {
-        let (line, more) = first_line(rest);
-        match reader.read_next(alloc, line) {
-            Ok(()) => {}
-            Err(refusal) => return Err(refusal.at_line(number)),
-        }
-        number += 1;
-        rest = more;
-    }
-    if !reader.place.may_end() {
-        let cause = Cause::EndsEarly;
-        return Err(ScriptError::Line { number, cause });
-    }
-    match reader.into_script() {
-        Ok(script) => Ok(script),
-        Err(Memory) => Err(ScriptError::Memory),
     }
 }

@@ -6,6 +6,7 @@ ghost use Rattle.nk_script.specs.Texts.{words};
 ghost use Rattle.nk_script.specs.Lines.{IsLineOf, IsHopLine, IsFillLine, IsEndLine, IsListenerLine, IsWindowLine, IsReactionLine, IsControlLine, IsStepLine};
 
 use crate::line::{Keyword, Line};
+use crate::placed::PlacedText;
 use crate::rest::{read_field_line, read_hex_line, read_piece_line, read_trailer_line};
 use crate::text::words_of;
 use crate::worded::{
@@ -19,31 +20,32 @@ use std::alloc::Global;
 pub(crate) fn read_line(
     alloc: Global,
     keyword: Keyword,
-    text: &[u8],
+    text: &PlacedText,
     channels: u32,
 ) -> Result<Option<Line>, Memory>
     ensures line { IfOk result (λ found. IfSome found (IsLineOf keyword channels text.now)) }
     ensures each { (line : AnyLine) → IsLineOf keyword channels text.now line → IfOk result (λ found. found ≡ Some line) }
 {
+    let bytes = text.as_slice();
     match keyword {
-        Keyword::Script => Ok(read_fixed(text, b"script 1", Line::Script)),
-        Keyword::Channel => Ok(read_fixed(text, b"channel", Line::Channel)),
-        Keyword::Retargetable => Ok(read_fixed(text, b"retargetable no", Line::NotRetargetable)),
-        Keyword::Start => Ok(read_fixed(text, b"start back", Line::StartBack)),
-        Keyword::Closed => Ok(read_fixed(text, b"closed", Line::Closed)),
-        Keyword::Schedule => Ok(read_fixed(text, b"schedule", Line::Schedule)),
-        Keyword::Field => read_field_line(alloc, text),
-        Keyword::Trailer => read_trailer_line(alloc, text),
-        Keyword::Piece => read_piece_line(alloc, text),
-        Keyword::Hex => read_hex_line(alloc, text),
-        Keyword::Hop => read_hops(alloc, text),
-        Keyword::Fill => read_fills(alloc, text),
-        Keyword::End => read_ends(alloc, text),
-        Keyword::Listener => read_listeners(alloc, text),
-        Keyword::Window => read_windows(alloc, text),
-        Keyword::At => read_reactions(alloc, text),
-        Keyword::When => read_controls(alloc, text),
-        Keyword::Number => read_steps(alloc, text, channels),
+        Keyword::Script => Ok(read_fixed(bytes, b"script 1", Line::Script)),
+        Keyword::Channel => Ok(read_fixed(bytes, b"channel", Line::Channel)),
+        Keyword::Retargetable => Ok(read_fixed(bytes, b"retargetable no", Line::NotRetargetable)),
+        Keyword::Start => Ok(read_fixed(bytes, b"start back", Line::StartBack)),
+        Keyword::Closed => Ok(read_fixed(bytes, b"closed", Line::Closed)),
+        Keyword::Schedule => Ok(read_fixed(bytes, b"schedule", Line::Schedule)),
+        Keyword::Field => read_field_line(alloc, bytes),
+        Keyword::Trailer => read_trailer_line(alloc, bytes),
+        Keyword::Piece => read_piece_line(text),
+        Keyword::Hex => read_hex_line(alloc, bytes),
+        Keyword::Hop => read_hops(alloc, bytes),
+        Keyword::Fill => read_fills(alloc, bytes),
+        Keyword::End => read_ends(alloc, bytes),
+        Keyword::Listener => read_listeners(alloc, bytes),
+        Keyword::Window => read_windows(alloc, bytes),
+        Keyword::At => read_reactions(alloc, bytes),
+        Keyword::When => read_controls(alloc, bytes),
+        Keyword::Number => read_steps(alloc, bytes, channels),
     }
 }
 

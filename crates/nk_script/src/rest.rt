@@ -4,9 +4,10 @@ ghost use Rattle.std.specs.Prelude.{◌≡◌, Some, IfSome, IfOk};
 ghost use Rattle.nk_script.specs.declared.line.Line.{Line as AnyLine};
 ghost use Rattle.nk_script.specs.Lines.{IsFieldLine, IsTrailerLine, IsPieceLine, IsHexLine};
 
-use crate::field::{behind_prefix, read_field, read_piece};
+use crate::field::{behind_prefix, piece_of, read_field};
 use crate::line::Line;
 use crate::piece::read_bytes;
+use crate::placed::PlacedText;
 use nk_base::Memory;
 use std::alloc::Global;
 
@@ -38,15 +39,16 @@ pub(crate) fn read_trailer_line(alloc: Global, text: &[u8]) -> Result<Option<Lin
     }
 }
 
-// `piece TEXT`
-pub(crate) fn read_piece_line(alloc: Global, text: &[u8]) -> Result<Option<Line>, Memory>
+// `piece TEXT`; the piece is a part of the block that the line stands in.
+#[tactic(auto, using(crate::proofs::Placing::behind_prefix))]
+pub(crate) fn read_piece_line(text: &PlacedText) -> Result<Option<Line>, Memory>
     ensures line { IfOk result (λ found. IfSome found (IsPieceLine text.now)) }
     ensures each { (line : AnyLine) → IsPieceLine text.now line → IfOk result (λ found. found ≡ Some line) }
 {
-    let Some(bytes) = behind_prefix(text, b"piece ") else {
+    let Some(bytes) = behind_prefix(text.as_slice(), b"piece ") else {
         return Ok(None);
     };
-    match read_piece(alloc, bytes)? {
+    match text.piece_behind(text.as_slice().len() - bytes.len())? {
         Some(piece) => Ok(Some(Line::Piece(piece))),
         None => Ok(None),
     }
@@ -63,7 +65,7 @@ pub(crate) fn read_hex_line(alloc: Global, text: &[u8]) -> Result<Option<Line>, 
     let Some(bytes) = read_bytes(alloc, digits)? else {
         return Ok(None);
     };
-    match read_piece(alloc, bytes.as_slice())? {
+    match piece_of(bytes)? {
         Some(piece) => Ok(Some(Line::Piece(piece))),
         None => Ok(None),
     }

@@ -1,6 +1,9 @@
 // A script: the plans of its channels and the steps of its schedule, and why a text is none.
 
-use nk_base::Items;
+ghost use Rattle.std.specs.Prelude.{◌≡◌};
+ghost use Rattle.nk_script.specs.declared.script.ScriptError.TheVariants.{Memory as OutOfMemory};
+
+use nk_base::{Items, Memory};
 use nk_plan::{Plans, Step};
 use thiserror::Error;
 
@@ -47,4 +50,12 @@ pub enum ScriptError {
     /// Want of memory.
     #[error("want of memory")]
     Memory,
+}
+
+impl From<Memory> for ScriptError {
+    ghost from_gives = { λ _ e. e ≡ OutOfMemory };
+
+    fn from(_memory: Memory) -> ScriptError {
+        ScriptError::Memory
+    }
 }

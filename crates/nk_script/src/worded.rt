@@ -5,10 +5,10 @@ ghost use Rattle.nk_script.specs.declared.line.Line.{Line as AnyLine};
 ghost use Rattle.nk_base.specs.Pieces.{IsPiece};
 ghost use Rattle.nk_script.specs.Lines.{IsHopLine, IsFillLine, IsEndLine, IsListenerLine, IsWindowLine, IsReactionLine, IsControlLine, IsStepLine};
 
-use crate::field::read_piece;
+use crate::field::piece_of;
 use crate::form::{read_control, read_end, read_hop, read_listener, read_reaction, read_step};
 use crate::line::Line;
-use crate::number::{read_byte, read_decimal};
+use crate::number::{read_byte, read_number};
 use crate::script::ScheduleItem;
 use nk_base::{Memory, Piece};
 use nk_plan::ChannelPlan;
@@ -53,11 +53,7 @@ pub(crate) fn read_window_line(words: &[&str]) -> Option<Line>
     ensures each { (line : AnyLine) → IsWindowLine (map (λ word. word.now) words.now) line → result ≡ Some line }
 {
     match *words {
-        ["window", size] => Some(Line::Window(read_decimal(
-            size.as_bytes(),
-            1,
-            ChannelPlan::MOST_WINDOW,
-        )?)),
+        ["window", size] => Some(Line::Window(read_number(size, 1, ChannelPlan::MOST_WINDOW)?)),
         _ => None,
     }
 }
@@ -91,7 +87,7 @@ pub(crate) fn read_step_line(words: &[&str], channels: u32) -> Option<Line>
 {
     match words {
         [channel, step @ ..] => Some(Line::Step(ScheduleItem {
-            channel: read_decimal(channel.as_bytes(), 1, channels)?,
+            channel: read_number(channel, 1, channels)?,
             step: read_step(step)?,
         })),
         [] => None,
@@ -117,7 +113,7 @@ fn read_fill(alloc: Global, byte: &str, count: &str) -> Result<Option<Line>, Mem
     let Some(byte) = read_byte(byte.as_bytes()) else {
         return Ok(None);
     };
-    let Some(count) = read_decimal(count.as_bytes(), 1, 131_072) else {
+    let Some(count) = read_number(count, 1, 131_072) else {
         return Ok(None);
     };
     match fill(alloc, byte, count)? {
@@ -133,5 +129,5 @@ fn fill(alloc: Global, byte: u8, count: u32) -> Result<Option<Piece>, Memory>
     let Ok(bytes) = vec![in alloc; byte; count as usize] else {
         return Err(Memory);
     };
-    read_piece(alloc, bytes.as_slice())
+    piece_of(bytes)
 }

@@ -1,8 +1,9 @@
 // Texts that are no script, and the line at which each is refused; and what else a text may say there.
 
 use crate::rows::{none_wrong, right};
+use bytes::Bytes;
 use nk_script::Cause::{self, EndsEarly, Malformed, Unexpected};
-use nk_script::{ScriptError, read_script};
+use nk_script::{Script, ScriptError, read_script, read_shared};
 use std::alloc::{AllocError, Global};
 
 /// The line at which a text is refused, and why; `None` where it is a script.
@@ -14,16 +15,24 @@ pub type Part = (&'static str, usize);
 /// What follows the head of a text, and the answer to the whole.
 type Row = (&'static str, Answer);
 
-// Whether that is the answer to a text; it is not for want of memory, nor where the text is too long.
-fn is_answer(alloc: Global, text: &[u8], expected: Answer) -> bool {
-    if text.len() >= 0x8000_0000 {
-        return false;
-    }
-    match read_script(alloc, text) {
+// Whether a text was answered so; it was not for want of memory.
+fn is_so(answer: Result<Script, ScriptError>, expected: Answer) -> bool {
+    match answer {
         Ok(_) => expected.is_none(),
         Err(ScriptError::Line { number, cause }) => expected == Some((number, cause)),
         Err(ScriptError::Memory) => false,
     }
+}
+
+// Whether that is the answer to a text; it is not where the text is too long.
+fn is_answer(alloc: Global, text: &[u8], expected: Answer) -> bool {
+    text.len() < 0x8000_0000 && is_so(read_script(alloc, text), expected)
+}
+
+// Whether that is the answer to shared bytes.
+fn is_shared_answer(alloc: Global, text: &'static str, expected: Answer) -> bool {
+    let input = Bytes::from_static(text.as_bytes());
+    input.len() < 0x8000_0000 && is_so(read_shared(alloc, &input), expected)
 }
 
 // Adds a part to a text.
@@ -103,6 +112,40 @@ const WORKED: &[Row] = &[
 #[test]
 fn texts_are_refused_at_the_first_line_that_cannot_stand(rt: HostRuntime) {
     none_wrong(&rt, first_wrong(rt.alloc(), CHANNEL, WORKED));
+}
+
+// Shared bytes, the last line with its line feed and without, and a line that cannot stand behind pieces.
+const SHARED: &[Row] = &[
+    ("", Some((1, EndsEarly))),
+    (
+        "script 1\nchannel\nhop response 200\npiece a\npiece b\nend ok\nchannel\nhop response 200\npiece c\nend ok",
+        None,
+    ),
+    (
+        "script 1\nchannel\nhop redirect 302 allow\nhop response 200\npiece a\npiece \nend ok\n",
+        Some((6, Malformed)),
+    ),
+    (
+        "script 1\nchannel\nhop response 200\npiece a\nfield a b\n",
+        Some((5, Unexpected)),
+    ),
+];
+
+// The number of the first row whose bytes are answered otherwise.
+fn first_wrong_shared(alloc: Global, rows: &[Row]) -> Option<usize> {
+    let mut number: usize = 0;
+    for (text, expected) in rows {
+        if !is_shared_answer(alloc, text, *expected) {
+            return Some(number);
+        }
+        number = number.wrapping_add(1);
+    }
+    None
+}
+
+#[test]
+fn shared_bytes_are_read_as_a_text_is(rt: HostRuntime) {
+    none_wrong(&rt, first_wrong_shared(rt.alloc(), SHARED));
 }
 
 const HEADS: &[Row] = &[

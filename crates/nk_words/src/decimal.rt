@@ -1,11 +1,11 @@
-// Decimal numbers among the program's words.
+// Decimal numbers, as the program's words and the lines of a script spell them.
 
 ghost use Rattle.std.specs.Prelude.{◌≡◌, ◌^◌, ◌<◌, ◌↔◌, ℕ, Some, IsTrue};
 ghost use Rattle.std.specs.Fmt.{decimal};
 ghost use Rattle.nk_words.specs.Decimal.{HasPlainStart};
 
-// The number that the text spells, without a sign or a leading zero; none elsewhere.
-pub(crate) fn read_decimal(text: &str) -> Option<u32>
+/// The number of 32 bits that the text spells in decimal, without a sign or a leading zero; none elsewhere (this project's own).
+pub fn read_decimal(text: &str) -> Option<u32>
     ensures { (n : ℕ) → n < 2 ^ 32 → (result ≡ Some n) ↔ (text.now ≡ decimal n) }
 {
     if has_plain_start(text.as_bytes()) {

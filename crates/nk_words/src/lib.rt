@@ -5,3 +5,4 @@ mod command;
 mod decimal;
 
 pub use command::{Command, Usage, read_words, usage_line};
+pub use decimal::read_decimal;

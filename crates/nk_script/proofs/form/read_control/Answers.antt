@@ -4,11 +4,10 @@ use Rattle.nk_script.proofs.form.read_control.Goals as goal
 
 pub returns-in_ok-read_act-in-len1-up-clause-control : goal.returns-in_ok-read_act-in-len1-up-clause-control
 returns-in_ok-read_act-in-len1-up-clause-control c =
-    let number = rw c.as_bytes.ensures.value at c.in_ok-read_decimal-in-len1-up.ensures.number in
     record {
       count = _;
       call = _;
       spelled = grind (arith, common_steps);
-      after = number;
+      after = c.in_ok-read_number-in-len1-up.ensures.number;
       performed = c.in_ok-read_act-in-len1-up.ensures.act;
     }
