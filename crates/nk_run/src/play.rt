@@ -1,6 +1,6 @@
 // The commands `play` and `play log`: the report of the channels of a script.
 
-ghost use Rattle.std.specs.Prelude.{ℕ, List, ◌≡◌, ◌≢◌, ◌≤◌, IfOk, IfErr, IsOkUnless, length};
+ghost use Rattle.std.specs.Prelude.{ℕ, List, ◌≡◌, ◌≢◌, ◌≤◌, IfOk, IfErr, IsOkUnless, vec_len};
 ghost use Rattle.nk_script.specs.Answers.{IsPlayable};
 ghost use Rattle.nk_script.specs.Grammar.{IsTextOf};
 ghost use Rattle.nk_run.specs.Ends.{IsReport};
@@ -10,34 +10,38 @@ ghost use Rattle.nk_run.specs.Runs.{IsRead, IsRun, most_input, outcome};
 use crate::ends::ends_of;
 use crate::failure::{Failure, write_out};
 use crate::input::input_text;
+use bytes::Bytes;
 use nk_base::Memory;
 use nk_io::{Sink, Source};
-use nk_script::{Script, ScriptError, read_script};
+use nk_script::{Script, ScriptError, read_shared};
 use nk_trace::report;
 use std::alloc::Global;
 
-/// The script that the text stands for.
-fn script_of(alloc: Global, text: &[u8]) -> Result<Script, Failure>
-    requires { length text.now ≤ most_input }
-    ensures script { IfOk result (λ script. IsTextOf script text.now) }
+/// The script that the text stands for. Its pieces are parts of the text, which is not copied.
+fn script_of(alloc: Global, text: Vec<u8>) -> Result<Script, Failure>
+    requires { vec_len text ≤ most_input }
+    ensures script { IfOk result (λ script. IsTextOf script text.items) }
     ensures playable { IfOk result IsPlayable }
-    ensures refused { IfErr result (λ e. Refuses e text.now) }
+    ensures refused { IfErr result (λ e. Refuses e text.items) }
 {
-    match read_script(alloc, text) {
+    let Ok(input) = Bytes::from_vec(text) else {
+        return Err(Failure::Memory);
+    };
+    match read_shared(alloc, &input) {
         Ok(script) => Ok(script),
         Err(ScriptError::Line { number, cause }) => Err(Failure::Line { number, cause }),
         Err(ScriptError::Memory) => Err(Failure::Memory),
     }
 }
 
-/// The script that the input is. Its text is dropped.
+/// The script that the input is.
 fn read<I: Source>(alloc: Global, input: &mut I) -> Result<Script, Failure>
     ensures script { IfOk result (λ script. IsRead (I.left input.old) (I.left input.new) (IsTextOf script)) }
     ensures playable { IfOk result IsPlayable }
     ensures fails { IfErr result (λ e. Fails e (I.left input.old) (I.left input.new) (I.faults input.old) (I.faults input.new)) }
 {
     let text = input_text(alloc, input)?;
-    script_of(alloc, text.as_slice())
+    script_of(alloc, text)
 }
 
 /// The report of the channels of a script, with their journals where there is a log.
