@@ -1,39 +1,55 @@
-//! Calls of std that a signal interrupts, made again (this project's own): as std's own `read_to_end` and `write_all` do,
-//! but not without end, so that each call returns.
+//! One read and one write of std, made again where a signal interrupted them.
+ghost use Rattle.std.specs.Prelude.{◌≡◌, ◌≢◌, ◌<◌, length, take, IfOk, IfErr, OnErr};
 ghost use Rattle.std.specs.Io.{ReadsAtMost, WritesAtMost};
-ghost use Rattle.std.specs.Io.KnownBytes.{ReadConsumes, WriteAppends};
+ghost use Rattle.std.specs.Io.KnownBytes.{Consumes, Keeps, IsAtEnd, Appends};
+ghost use Rattle.std.specs.IoError.{error_kind};
 
-use std::io::{ErrorKind, Read, Result, Write};
+use std::io::{Error, ErrorKind, Read, Result, Write};
 
-/// How often an interrupted call is made again. No signal comes so often between two bytes.
-const RETRIES: u32 = 65_536;
+/// How often a call is made before an interrupt counts as a fault. It bounds each call.
+const TRIES: u32 = 65_536;
 
-/// One read, made again while a signal interrupts it.
-#[tactic(auto, using(crate::proofs::Interrupts::keeps_twice, crate::proofs::Interrupts::read_kept))]
-pub(crate) fn read_again<R: Read>(reader: &mut R, buffer: &mut [u8]) -> Result<usize>
+/// Reads once, and again where a signal interrupted the read.
+///
+/// It never fails by `Interrupted`: a reader that is always interrupted has timed out (`TimedOut`).
+pub fn read_again<R: Read>(reader: &mut R, buffer: &mut [u8]) -> Result<usize>
     ensures bound { ReadsAtMost result buffer.new }
-    ensures bytes { ReadConsumes (R.remaining reader.old) (R.remaining reader.new) result buffer.new }
+    ensures given { IfOk result (λ n. Consumes (R.remaining reader.old) (R.remaining reader.new) (take n buffer.new)) }
+    ensures end { IfOk result (λ n. n ≡ 0 → 0 < length buffer.old → IsAtEnd (R.remaining reader.new)) }
+    ensures failed { OnErr result (Keeps (R.remaining reader.old) (R.remaining reader.new)) }
+    ensures retried { IfErr result (λ e. error_kind e ≢ ErrorKind.Interrupted) }
 {
-    for _ in 0..RETRIES {
+    for _ in 0..TRIES {
         match reader.read(buffer) {
-            Err(e) if e.kind() == ErrorKind::Interrupted => {}
-            answer => return answer,
+            Ok(count) => return Ok(count),
+            Err(error) => {
+                if error.kind() != ErrorKind::Interrupted {
+                    return Err(error);
+                }
+            }
         }
     }
-    reader.read(buffer)
+    Err(Error::from(ErrorKind::TimedOut))
 }
 
-/// One write, made again while a signal interrupts it.
-#[tactic(auto, using(crate::proofs::Interrupts::keeps_twice, crate::proofs::Interrupts::write_kept))]
-pub(crate) fn write_again<W: Write>(writer: &mut W, bytes: &[u8]) -> Result<usize>
+/// Writes once, and again where a signal interrupted the write.
+///
+/// It never fails by `Interrupted`: a writer that is always interrupted has timed out (`TimedOut`).
+pub fn write_again<W: Write>(writer: &mut W, bytes: &[u8]) -> Result<usize>
     ensures bound { WritesAtMost result bytes.now }
-    ensures bytes { WriteAppends (W.contents writer.old) (W.contents writer.new) result bytes.now }
+    ensures taken { IfOk result (λ n. Appends (W.contents writer.old) (W.contents writer.new) (take n bytes.now)) }
+    ensures failed { OnErr result (Keeps (W.contents writer.old) (W.contents writer.new)) }
+    ensures retried { IfErr result (λ e. error_kind e ≢ ErrorKind.Interrupted) }
 {
-    for _ in 0..RETRIES {
+    for _ in 0..TRIES {
         match writer.write(bytes) {
-            Err(e) if e.kind() == ErrorKind::Interrupted => {}
-            answer => return answer,
+            Ok(count) => return Ok(count),
+            Err(error) => {
+                if error.kind() != ErrorKind::Interrupted {
+                    return Err(error);
+                }
+            }
         }
     }
-    writer.write(bytes)
+    Err(Error::from(ErrorKind::TimedOut))
 }

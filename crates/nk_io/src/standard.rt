@@ -33,7 +33,8 @@ impl<R: Read> Source for StdSource<R> {
 
     ghost faults = { λ s. s.faults };
 
-    /// Each `Err` is a fault, and a read of 0 bytes is the end.
+    /// An interrupted read is made again, a bounded number of times. Each other `Err` is a fault, and
+    /// a read of 0 bytes is the end.
     fn take(&mut self, buffer: &mut [u8]) -> Take
         requires { 0 < length buffer.old }
         ensures took { OnTook result (λ n. (0 < n) × (n ≤ length buffer.new)
@@ -85,7 +86,8 @@ impl<W: Write> Sink for StdSink<W> {
 
     ghost faults = { λ s. s.faults };
 
-    /// Each `Err` is a fault, and so is a write that takes nothing.
+    /// An interrupted write is made again, a bounded number of times. Each other `Err` is a fault,
+    /// and so is a write that takes nothing.
     fn put(&mut self, bytes: &[u8]) -> Put
         requires { 0 < length bytes.now }
         ensures put { OnPut result (λ n. (0 < n) × (n ≤ length bytes.now)

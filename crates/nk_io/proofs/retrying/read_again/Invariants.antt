@@ -1,9 +1,7 @@
+-- An interrupted read gave nothing, and the buffer keeps its length.
 use Rattle.std.proofs.Common.{◌≡◌, length}
 use Rattle.std.specs.Io.KnownBytes.{Keeps}
 use Rattle.nk_io.proofs.retrying.read_again.Given as goal
 
 abbrev pub invariant-loop : goal.invariant-loop
-invariant-loop g l = record {
-  buffer : length l.buffer ≡ length l.initial.buffer;
-  kept : Keeps (g.R.Read.remaining l.initial.reader) (g.R.Read.remaining l.reader);
-}
+invariant-loop g l = (length l.buffer ≡ length l.initial.buffer) × Keeps (g.R.Read.remaining l.initial.reader) (g.R.Read.remaining l.reader)

@@ -1,3 +1,4 @@
+-- An interrupted write appended nothing.
 use Rattle.std.specs.Io.KnownBytes.{Keeps}
 use Rattle.nk_io.proofs.retrying.write_again.Given as goal
 

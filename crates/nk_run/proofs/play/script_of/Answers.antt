@@ -5,6 +5,6 @@ use Rattle.nk_run.proofs.play.script_of.Goals as goal
 pub returns-in-Err-Line-clause-refused : goal.returns-in-Err-Line-clause-refused
 returns-in-Err-Line-clause-refused c =
     let line = c.in-Err-Line in (
-      blamed c.args.text.now line.field-0 line.number line.cause line.ensures.line line.field-0-is,
+      blamed c.args.text.items line.field-0 line.number line.cause line.ensures.line line.field-0-is,
       λ script is. never_refused c.read_script.result script line.field-0 line.number line.cause (c.read_script.ensures.every script is) line.is line.field-0-is,
     )
