@@ -209,47 +209,41 @@ changed b v u d ev eu ed =
     ap (λ w. record b { child = w }) ev
     ∙ (ap (λ w. record b { child = v; up_sent = w }) eu ∙ ap (λ w. record b { child = v; up_sent = u; delivered = w }) ed)
 
--- the child, and what was sent and delivered, of the value behind a step
-pub value_turned : (x : ChildStep) (b b' : Inside) → Stepped x b b'
-    → book_of b' ≡ record (book_of b') { child = (turned x (book_of b)).child; up_sent = (turned x (book_of b)).up_sent; delivered = (turned x (book_of b)).delivered }
-value_turned x b b' s =
+-- but for what its taking ends tell, the value is that of the table's step
+value_is : (x : ChildStep) (b b' : Inside) → Stepped x b b' → b'.number ≡ b.number
+    → book_of b' ≡ record (turned x (book_of b)) { main_taken = (book_of b').main_taken; main_left = (book_of b').main_left; back_taken = (book_of b').back_taken; back_left = (book_of b').back_left }
+value_is x b b' s number =
     let old : ChildState = b.child.state in
     let state : b'.child.state ≡ child_step b.child.plan x old = ap (λ (v : ChildView). v.state) s.child in
+    let v = (turned x (book_of b)).child in
+    let u = (turned x (book_of b)).up_sent in
+    let d = (turned x (book_of b)).delivered in
     changed (book_of b') _ _ _ s.child
     (s.sent ∙ ap (λ (v : ChildState). messages up_of_frame (sent_on b.up.end) ++ drop (length old.sent) v.sent) state)
     (s.delivered ∙ ap (λ (v : ChildState). sent_on b.delivery.end ++ drop (length old.trace) v.trace) state)
+    ∙ ap (λ n. record (book_of b') { number = n; child = v; up_sent = u; delivered = d }) number
 
 pub main_did : (m : MainMsg) (b b' : Inside) (a : BookState) → book_of b ≡ a → b.child.state.broken ≡ false → Stepped (step.Main m) b b'
     → b'.number ≡ b.number → b'.back ≡ b.back
     → messages main_of_frame (taken_from b'.main) ≡ messages main_of_frame (taken_from b.main) ++ m ∷ [] → IsMain Did a (book_of b')
 main_did m b b' a is whole s number n taken =
     let t : BookState = turned (step.Main m) (book_of b) in
-    let made = value_turned (step.Main m) b b' s in
-    let named : record t { number = b'.number; main_taken = (book_of b').main_taken; main_left = (book_of b').main_left; back_taken = (book_of b').back_taken; back_left = (book_of b').back_left }
-    ≡ record t { main_taken = (book_of b').main_taken; main_left = (book_of b').main_left; back_taken = (book_of b').back_taken; back_left = (book_of b').back_left } =
-    ap (λ w. record t { number = w; main_taken = (book_of b').main_taken; main_left = (book_of b').main_left; back_taken = (book_of b').back_taken; back_left = (book_of b').back_left }) number in
-    let rest : record t { main_taken = (book_of b').main_taken; main_left = (book_of b').main_left; back_taken = (book_of b').back_taken; back_left = (book_of b').back_left }
-    ≡ record t { main_taken = (book_of b').main_taken; main_left = (book_of b').main_left } =
-    ap (λ w. record t { main_taken = (book_of b').main_taken; main_left = (book_of b').main_left; back_taken = messages back_of_frame (taken_from w); back_left = messages back_of_frame (left_known w) }) n in
-    let one : record t { main_taken = (book_of b').main_taken; main_left = (book_of b').main_left } ≡ record t { main_taken = (book_of b).main_taken ++ m ∷ []; main_left = (book_of b').main_left } =
-    ap (λ w. record t { main_taken = w; main_left = (book_of b').main_left }) taken in
-    subst (λ (v : BookState). IsMain Did v (book_of b')) is (m, whole, made ∙ (named ∙ (rest ∙ one)))
+    let given = (book_of b').main_taken in
+    let left = (book_of b').main_left in
+    let other = ap (λ w. record t { main_taken = given; main_left = left; back_taken = messages back_of_frame (taken_from w); back_left = messages back_of_frame (left_known w) }) n in
+    let one = ap (λ w. record t { main_taken = w; main_left = left }) taken in
+    subst (λ (v : BookState). IsMain Did v (book_of b')) is (m, whole, value_is (step.Main m) b b' s number ∙ (other ∙ one))
 
 pub back_did : (m : BackMsg) (b b' : Inside) (a : BookState) → book_of b ≡ a → b.child.state.broken ≡ false → Stepped (step.Back m) b b'
     → b'.number ≡ b.number → b'.main ≡ b.main
     → messages back_of_frame (taken_from b'.back) ≡ messages back_of_frame (taken_from b.back) ++ m ∷ [] → IsBack Did a (book_of b')
 back_did m b b' a is whole s number n taken =
     let t : BookState = turned (step.Back m) (book_of b) in
-    let made = value_turned (step.Back m) b b' s in
-    let named : record t { number = b'.number; main_taken = (book_of b').main_taken; main_left = (book_of b').main_left; back_taken = (book_of b').back_taken; back_left = (book_of b').back_left }
-    ≡ record t { main_taken = (book_of b').main_taken; main_left = (book_of b').main_left; back_taken = (book_of b').back_taken; back_left = (book_of b').back_left } =
-    ap (λ w. record t { number = w; main_taken = (book_of b').main_taken; main_left = (book_of b').main_left; back_taken = (book_of b').back_taken; back_left = (book_of b').back_left }) number in
-    let rest : record t { main_taken = (book_of b').main_taken; main_left = (book_of b').main_left; back_taken = (book_of b').back_taken; back_left = (book_of b').back_left }
-    ≡ record t { back_taken = (book_of b').back_taken; back_left = (book_of b').back_left } =
-    ap (λ w. record t { main_taken = messages main_of_frame (taken_from w); main_left = messages main_of_frame (left_known w); back_taken = (book_of b').back_taken; back_left = (book_of b').back_left }) n in
-    let one : record t { back_taken = (book_of b').back_taken; back_left = (book_of b').back_left } ≡ record t { back_taken = (book_of b).back_taken ++ m ∷ []; back_left = (book_of b').back_left } =
-    ap (λ w. record t { back_taken = w; back_left = (book_of b').back_left }) taken in
-    subst (λ (v : BookState). IsBack Did v (book_of b')) is (m, whole, made ∙ (named ∙ (rest ∙ one)))
+    let given = (book_of b').back_taken in
+    let left = (book_of b').back_left in
+    let other = ap (λ w. record t { main_taken = messages main_of_frame (taken_from w); main_left = messages main_of_frame (left_known w); back_taken = given; back_left = left }) n in
+    let one = ap (λ w. record t { back_taken = w; back_left = left }) taken in
+    subst (λ (v : BookState). IsBack Did v (book_of b')) is (m, whole, value_is (step.Back m) b b' s number ∙ (other ∙ one))
 
 -- WHAT A BOOK KEEPS, BY ITS VALUE
 
