@@ -1,6 +1,6 @@
 // The commands `play` and `play log`: the report of the channels of a script.
 
-ghost use Rattle.std.specs.Prelude.{ℕ, List, ◌≡◌, ◌≢◌, ◌≤◌, IfOk, IfErr, IsOkUnless, vec_len};
+ghost use Rattle.std.specs.Prelude.{ℕ, List, ◌≡◌, ◌≢◌, ◌≤◌, IfOk, IfErr, IsOkUnless, length, vec_len};
 ghost use Rattle.nk_script.specs.Answers.{IsPlayable};
 ghost use Rattle.nk_script.specs.Grammar.{IsTextOf};
 ghost use Rattle.nk_run.specs.Ends.{IsReport};
@@ -17,7 +17,21 @@ use nk_script::{Script, ScriptError, read_shared};
 use nk_trace::report;
 use std::alloc::Global;
 
-/// The script that the text stands for. Its pieces are parts of the text, which is not copied.
+/// The script that these bytes stand for. Its pieces are parts of them.
+fn script_in(alloc: Global, text: &Bytes) -> Result<Script, Failure>
+    requires { length text.now ≤ most_input }
+    ensures script { IfOk result (λ script. IsTextOf script text.now) }
+    ensures playable { IfOk result IsPlayable }
+    ensures refused { IfErr result (λ e. Refuses e text.now) }
+{
+    match read_shared(alloc, text) {
+        Ok(script) => Ok(script),
+        Err(ScriptError::Line { number, cause }) => Err(Failure::Line { number, cause }),
+        Err(ScriptError::Memory) => Err(Failure::Memory),
+    }
+}
+
+/// The script that the text stands for. The text is not copied.
 fn script_of(alloc: Global, text: Vec<u8>) -> Result<Script, Failure>
     requires { vec_len text ≤ most_input }
     ensures script { IfOk result (λ script. IsTextOf script text.items) }
@@ -27,11 +41,7 @@ fn script_of(alloc: Global, text: Vec<u8>) -> Result<Script, Failure>
     let Ok(input) = Bytes::from_vec(text) else {
         return Err(Failure::Memory);
     };
-    match read_shared(alloc, &input) {
-        Ok(script) => Ok(script),
-        Err(ScriptError::Line { number, cause }) => Err(Failure::Line { number, cause }),
-        Err(ScriptError::Memory) => Err(Failure::Memory),
-    }
+    script_in(alloc, &input)
 }
 
 /// The script that the input is.
