@@ -114,17 +114,18 @@ const VERIFIED: ParentStep = ParentStep::Up(UpMsg::Verify {
 
 #[test]
 fn a_piece_goes_where_there_is_credit(rt: HostRuntime) -> Result<(), Fail> {
+    const ROWS: &[Row] = &[
+        (OPEN, b"", 1, &[]),
+        (FETCH, b"start 0 00000000 200 0\nsent 0\n", 1, &[]),
+        (FETCH, b"bytes 0 00000000 0 5\n", -4, &[]),
+        (FETCH, b"", -4, &[]),
+        (ParentStep::Up(UpMsg::BytesRead { count: 5 }), b"", 1, &[]),
+        (FETCH, b"bytes 0 00000000 5 5\n", -4, &[]),
+    ];
     sends(
         rt.alloc(),
         b"script 1\nchannel\nhop response 200\npiece hello\npiece hello\nend ok\nwindow 1\n",
-        &[
-            (OPEN, b"", 1, &[]),
-            (FETCH, b"start 0 00000000 200 0\nsent 0\n", 1, &[]),
-            (FETCH, b"bytes 0 00000000 0 5\n", -4, &[]),
-            (FETCH, b"", -4, &[]),
-            (ParentStep::Up(UpMsg::BytesRead { count: 5 }), b"", 1, &[]),
-            (FETCH, b"bytes 0 00000000 5 5\n", -4, &[]),
-        ],
+        ROWS,
     )
 }
 
@@ -134,18 +135,19 @@ const CANCEL: ParentStep = ParentStep::Up(UpMsg::Cancel {
 
 #[test]
 fn a_load_that_is_cancelled_early_starts_and_stops(rt: HostRuntime) -> Result<(), Fail> {
+    const ROWS: &[Row] = &[
+        (FETCH, b"", 9, &[]),
+        (VERIFIED, b"", 9, &[]),
+        (OPEN, b"", 9, &[]),
+        (CANCEL, b"", 9, &[]),
+        (FETCH, b"start 0 804b0002 200 0\nsent 0\n", 9, &[]),
+        (FETCH, b"stop 0 804b0002\n", 9, &[]),
+        (FETCH, b"", 9, &[]),
+    ];
     sends(
         rt.alloc(),
         b"script 1\nchannel\nhop response 200\npiece hello\nend ok\nwindow 9\n",
-        &[
-            (FETCH, b"", 9, &[]),
-            (VERIFIED, b"", 9, &[]),
-            (OPEN, b"", 9, &[]),
-            (CANCEL, b"", 9, &[]),
-            (FETCH, b"start 0 804b0002 200 0\nsent 0\n", 9, &[]),
-            (FETCH, b"stop 0 804b0002\n", 9, &[]),
-            (FETCH, b"", 9, &[]),
-        ],
+        ROWS,
     )
 }
 
@@ -196,18 +198,19 @@ const IN_DONE: &[UpMsg] = &[
 
 #[test]
 fn messages_that_are_not_expected_change_nothing(rt: HostRuntime) -> Result<(), Fail> {
+    const ROWS: &[Row] = &[
+        (FETCH, b"", 1, IN_CLOSED),
+        (OPEN, b"", 1, IN_LOAD),
+        (FETCH, b"redirect1 0 302\n", 1, IN_ASKING),
+        (VERIFIED, b"", 1, IN_LOAD),
+        (FETCH, b"redirect3 0\n", 1, IN_LOAD),
+        (FETCH, b"start 1 00000000 200 0\nsent 1\n", 1, IN_LOAD),
+        (FETCH, b"stop 1 00000000\n", 1, IN_DONE),
+        (FETCH, b"", 1, IN_DONE),
+    ];
     sends(
         rt.alloc(),
         b"script 1\nchannel\nhop redirect 302 allow\nhop response 200\nend ok\nwindow 1\n",
-        &[
-            (FETCH, b"", 1, IN_CLOSED),
-            (OPEN, b"", 1, IN_LOAD),
-            (FETCH, b"redirect1 0 302\n", 1, IN_ASKING),
-            (VERIFIED, b"", 1, IN_LOAD),
-            (FETCH, b"redirect3 0\n", 1, IN_LOAD),
-            (FETCH, b"start 1 00000000 200 0\nsent 1\n", 1, IN_LOAD),
-            (FETCH, b"stop 1 00000000\n", 1, IN_DONE),
-            (FETCH, b"", 1, IN_DONE),
-        ],
+        ROWS,
     )
 }

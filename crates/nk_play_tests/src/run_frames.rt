@@ -27,69 +27,63 @@ fn lists(alloc: Global, rows: &[Row]) -> Result<(), Fail> {
 
 #[test]
 fn each_frame_has_a_line(rt: HostRuntime) -> Result<(), Fail> {
-    lists(
-        rt.alloc(),
-        &[
-            (b"", 0, b"", b""),
-            (TWO_FRAMES, 0, TWO_LINES, b""),
-            (
-                b"\x1a\0\0\0\x12\0\0\0\0\0\0\0\0\0\0\0\0\0\0\0\0\x05\0\0\0hello\
-                  \x09\0\0\0\x25\0\0\0\0\x02\0\x4b\x80",
-                0,
-                b"0 bytes 0 00000000 0 5\n30 verify 0 804b0002\n",
-                b"",
-            ),
-            (TRAILER, 0, b"0 stop 0 00000000 1\n", b""),
-        ],
-    )
+    const ROWS: &[Row] = &[
+        (b"", 0, b"", b""),
+        (TWO_FRAMES, 0, TWO_LINES, b""),
+        (
+            b"\x1a\0\0\0\x12\0\0\0\0\0\0\0\0\0\0\0\0\0\0\0\0\x05\0\0\0hello\
+              \x09\0\0\0\x25\0\0\0\0\x02\0\x4b\x80",
+            0,
+            b"0 bytes 0 00000000 0 5\n30 verify 0 804b0002\n",
+            b"",
+        ),
+        (TRAILER, 0, b"0 stop 0 00000000 1\n", b""),
+    ];
+    lists(rt.alloc(), ROWS)
 }
 
 #[test]
 fn the_first_frame_that_is_wrong_is_named(rt: HostRuntime) -> Result<(), Fail> {
-    lists(
-        rt.alloc(),
-        &[
-            (b"\0\0\0\0", 7, b"", b"error: frame 0: length 0\n"),
-            (b"\x01\0\0\0\x99", 7, b"", b"error: frame 0: kind 99\n"),
-            (
-                b"\x0a\0\0\0\x13\0\0\0\0\0\0\0\0\xff",
-                7,
-                b"",
-                b"error: frame 0: long 1\n",
-            ),
-            (b"\x02\0\0\0\xf2\x12", 7, b"", b"error: frame 0: kind 12\n"),
-            (b"\x01\0\0\0\xf2", 7, b"", b"error: frame 0: short 1 2\n"),
-            (
-                b"\x01\0\0\0\x21\x05\0\0\0\x04\x20\0\0\0",
-                7,
-                b"",
-                b"error: frame 5: field 1\n",
-            ),
-        ],
-    )
+    const ROWS: &[Row] = &[
+        (b"\0\0\0\0", 7, b"", b"error: frame 0: length 0\n"),
+        (b"\x01\0\0\0\x99", 7, b"", b"error: frame 0: kind 99\n"),
+        (
+            b"\x0a\0\0\0\x13\0\0\0\0\0\0\0\0\xff",
+            7,
+            b"",
+            b"error: frame 0: long 1\n",
+        ),
+        (b"\x02\0\0\0\xf2\x12", 7, b"", b"error: frame 0: kind 12\n"),
+        (b"\x01\0\0\0\xf2", 7, b"", b"error: frame 0: short 1 2\n"),
+        (
+            b"\x01\0\0\0\x21\x05\0\0\0\x04\x20\0\0\0",
+            7,
+            b"",
+            b"error: frame 5: field 1\n",
+        ),
+    ];
+    lists(rt.alloc(), ROWS)
 }
 
 #[test]
 fn a_frame_that_is_cut_is_named(rt: HostRuntime) -> Result<(), Fail> {
-    lists(
-        rt.alloc(),
-        &[
-            (b"\x09\0\0\0\x13\0", 7, b"", b"error: frame 0: cut 6 13\n"),
-            (
-                b"\x05\0\0\0\x24\x02\0\x4b\x80\x09\0\0\0\x13\0",
-                7,
-                b"",
-                b"error: frame 9: cut 6 13\n",
-            ),
-            (
-                b"\x05\0\0\0\x24\x02\0\x4b\x80\x09\0",
-                7,
-                b"",
-                b"error: frame 9: cut 2 4\n",
-            ),
-            (b"\x12\0\0\0\xf2\x13", 7, b"", b"error: frame 0: cut 6 22\n"),
-        ],
-    )
+    const ROWS: &[Row] = &[
+        (b"\x09\0\0\0\x13\0", 7, b"", b"error: frame 0: cut 6 13\n"),
+        (
+            b"\x05\0\0\0\x24\x02\0\x4b\x80\x09\0\0\0\x13\0",
+            7,
+            b"",
+            b"error: frame 9: cut 6 13\n",
+        ),
+        (
+            b"\x05\0\0\0\x24\x02\0\x4b\x80\x09\0",
+            7,
+            b"",
+            b"error: frame 9: cut 2 4\n",
+        ),
+        (b"\x12\0\0\0\xf2\x13", 7, b"", b"error: frame 0: cut 6 22\n"),
+    ];
+    lists(rt.alloc(), ROWS)
 }
 
 /// Lists the two frames over such streams, and compares what is answered.

@@ -31,40 +31,38 @@ fn refuses(alloc: Global, rows: &[(&[u8], &[u8])]) -> Result<(), Fail> {
 
 #[test]
 fn the_first_bad_line_of_a_text_is_named(rt: HostRuntime) -> Result<(), Fail> {
-    refuses(
-        rt.alloc(),
-        &[
-            (b"", b"error: line 1: ends early\n"),
-            (
-                b"script 1\nchannel\nhop response 200\npiece\n",
-                b"error: line 4: malformed\n",
-            ),
-            (
-                b"script 1\nchannel\nhop response 200\npiece hello\n",
-                b"error: line 5: ends early\n",
-            ),
-            (
-                b"script 1\nchannel\nhop response 99\n",
-                b"error: line 3: malformed\n",
-            ),
-            (
-                b"script 1\nchannel\nhop redirect 302 allow\n",
-                b"error: line 4: ends early\n",
-            ),
-            (
-                b"script 1\nchannel\nhop fail 804b000d\nschedule\n2 act\n",
-                b"error: line 5: malformed\n",
-            ),
-            (
-                b"script 1\nchannel\nhop fail 00000000\n",
-                b"error: line 3: malformed\n",
-            ),
-            (
-                b"script 1\nchannel\nhop fail 804b000d\nhop fail 804b000d\n",
-                b"error: line 4: unexpected\n",
-            ),
-        ],
-    )
+    const ROWS: &[(&[u8], &[u8])] = &[
+        (b"", b"error: line 1: ends early\n"),
+        (
+            b"script 1\nchannel\nhop response 200\npiece\n",
+            b"error: line 4: malformed\n",
+        ),
+        (
+            b"script 1\nchannel\nhop response 200\npiece hello\n",
+            b"error: line 5: ends early\n",
+        ),
+        (
+            b"script 1\nchannel\nhop response 99\n",
+            b"error: line 3: malformed\n",
+        ),
+        (
+            b"script 1\nchannel\nhop redirect 302 allow\n",
+            b"error: line 4: ends early\n",
+        ),
+        (
+            b"script 1\nchannel\nhop fail 804b000d\nschedule\n2 act\n",
+            b"error: line 5: malformed\n",
+        ),
+        (
+            b"script 1\nchannel\nhop fail 00000000\n",
+            b"error: line 3: malformed\n",
+        ),
+        (
+            b"script 1\nchannel\nhop fail 804b000d\nhop fail 804b000d\n",
+            b"error: line 4: unexpected\n",
+        ),
+    ];
+    refuses(rt.alloc(), ROWS)
 }
 
 /// Plays a text of these lines, of which the last stands so many times, and compares what is told.
@@ -113,19 +111,17 @@ fn has_no_meaning(alloc: Global, lists: &[&[&str]]) -> Result<(), Fail> {
 
 #[test]
 fn words_without_a_meaning_get_the_usage_line(rt: HostRuntime) -> Result<(), Fail> {
-    has_no_meaning(
-        rt.alloc(),
-        &[
-            &[],
-            &["play", "now"],
-            &["play", "log", "now"],
-            &["threads", "0"],
-            &["threads", "17"],
-            &["gen"],
-            &["gen", "07"],
-            &["gen", "4294967296"],
-        ],
-    )
+    const LISTS: &[&[&str]] = &[
+        &[],
+        &["play", "now"],
+        &["play", "log", "now"],
+        &["threads", "0"],
+        &["threads", "17"],
+        &["gen"],
+        &["gen", "07"],
+        &["gen", "4294967296"],
+    ];
+    has_no_meaning(rt.alloc(), LISTS)
 }
 
 #[test]

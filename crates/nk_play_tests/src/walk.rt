@@ -217,163 +217,155 @@ const CHILD_BLOCKS: &[(bool, bool, u8)] = &[
 
 #[test]
 fn a_whole_load_is_placed(rt: HostRuntime) -> Result<(), Fail> {
-    walks(
-        rt.alloc(),
-        &[
-            Row {
-                parent: PARENT,
-                forwards: 2,
-                child: CHILD,
-                entries: (5, 2, 10),
-                parent_blocks: PARENT_BLOCKS,
-                child_blocks: CHILD_BLOCKS,
-                blocks: (4, 2, 9),
-            },
-            Row {
-                parent: &[],
-                forwards: 0,
-                child: &[],
-                entries: (0, 0, 0),
-                parent_blocks: &[],
-                child_blocks: &[],
-                blocks: (0, 0, 0),
-            },
-        ],
-    )
+    const ROWS: &[Row] = &[
+        Row {
+            parent: PARENT,
+            forwards: 2,
+            child: CHILD,
+            entries: (5, 2, 10),
+            parent_blocks: PARENT_BLOCKS,
+            child_blocks: CHILD_BLOCKS,
+            blocks: (4, 2, 9),
+        },
+        Row {
+            parent: &[],
+            forwards: 0,
+            child: &[],
+            entries: (0, 0, 0),
+            parent_blocks: &[],
+            child_blocks: &[],
+            blocks: (0, 0, 0),
+        },
+    ];
+    walks(rt.alloc(), ROWS)
 }
 
 #[test]
 fn behind_a_missing_block_the_rest_waits(rt: HostRuntime) -> Result<(), Fail> {
-    walks(
-        rt.alloc(),
-        &[
-            // the page never opened
-            Row {
-                parent: PARENT,
-                forwards: 2,
-                child: &[
-                    Child::Main,
-                    Child::Quiet,
-                    Child::Back,
-                    Child::Quiet,
-                    Child::Finish,
-                    Child::Back,
-                    Child::Stop,
-                    Child::Finish,
-                    Child::Quiet,
-                ],
-                entries: (0, 0, 0),
-                parent_blocks: PARENT_BLOCKS,
-                child_blocks: &[
-                    (true, false, 0),
-                    (false, true, 0),
-                    (false, false, 0),
-                    (false, false, 0),
-                    (false, true, 0),
-                    (false, false, 0),
-                    (false, false, 1),
-                    (false, false, 0),
-                ],
-                blocks: (0, 0, 0),
-            },
-            // the parent never sent the stop
-            Row {
-                parent: &[Parent::Took, Parent::Main, Parent::Back, Parent::Took],
-                forwards: 2,
-                child: CHILD,
-                entries: (3, 1, 6),
-                parent_blocks: &[(true, 0, 0), (false, 1, 1), (true, 0, 0)],
-                child_blocks: CHILD_BLOCKS,
-                blocks: (2, 1, 5),
-            },
-            // the stop was never moved on
-            Row {
-                parent: PARENT,
-                forwards: 1,
-                child: CHILD,
-                entries: (4, 1, 6),
-                parent_blocks: PARENT_BLOCKS,
-                child_blocks: CHILD_BLOCKS,
-                blocks: (3, 1, 5),
-            },
-        ],
-    )
+    const ROWS: &[Row] = &[
+        // the page never opened
+        Row {
+            parent: PARENT,
+            forwards: 2,
+            child: &[
+                Child::Main,
+                Child::Quiet,
+                Child::Back,
+                Child::Quiet,
+                Child::Finish,
+                Child::Back,
+                Child::Stop,
+                Child::Finish,
+                Child::Quiet,
+            ],
+            entries: (0, 0, 0),
+            parent_blocks: PARENT_BLOCKS,
+            child_blocks: &[
+                (true, false, 0),
+                (false, true, 0),
+                (false, false, 0),
+                (false, false, 0),
+                (false, true, 0),
+                (false, false, 0),
+                (false, false, 1),
+                (false, false, 0),
+            ],
+            blocks: (0, 0, 0),
+        },
+        // the parent never sent the stop
+        Row {
+            parent: &[Parent::Took, Parent::Main, Parent::Back, Parent::Took],
+            forwards: 2,
+            child: CHILD,
+            entries: (3, 1, 6),
+            parent_blocks: &[(true, 0, 0), (false, 1, 1), (true, 0, 0)],
+            child_blocks: CHILD_BLOCKS,
+            blocks: (2, 1, 5),
+        },
+        // the stop was never moved on
+        Row {
+            parent: PARENT,
+            forwards: 1,
+            child: CHILD,
+            entries: (4, 1, 6),
+            parent_blocks: PARENT_BLOCKS,
+            child_blocks: CHILD_BLOCKS,
+            blocks: (3, 1, 5),
+        },
+    ];
+    walks(rt.alloc(), ROWS)
 }
 
 #[test]
 fn behind_swapped_blocks_the_rest_waits(rt: HostRuntime) -> Result<(), Fail> {
-    walks(
-        rt.alloc(),
-        &[
-            // the parent hears that the page is done, and then sends the stop
-            Row {
-                parent: &[
-                    Parent::Took,
-                    Parent::Main,
-                    Parent::Back,
-                    Parent::Took,
-                    Parent::Back,
-                ],
-                forwards: 2,
-                child: CHILD,
-                entries: (3, 1, 6),
-                parent_blocks: &[(true, 0, 0), (false, 1, 1), (true, 0, 0), (false, 0, 1)],
-                child_blocks: CHILD_BLOCKS,
-                blocks: (2, 1, 5),
-            },
-            // the page takes the start, and then opens: it is taken before it is sent
-            Row {
-                parent: &[Parent::Took, Parent::Main],
-                forwards: 0,
-                child: &[Child::Main, Child::Quiet, Child::Open],
-                entries: (0, 0, 0),
-                parent_blocks: &[(true, 0, 0), (false, 1, 0)],
-                child_blocks: &[(true, false, 0), (false, false, 1)],
-                blocks: (0, 0, 0),
-            },
-        ],
-    )
+    const ROWS: &[Row] = &[
+        // the parent hears that the page is done, and then sends the stop
+        Row {
+            parent: &[
+                Parent::Took,
+                Parent::Main,
+                Parent::Back,
+                Parent::Took,
+                Parent::Back,
+            ],
+            forwards: 2,
+            child: CHILD,
+            entries: (3, 1, 6),
+            parent_blocks: &[(true, 0, 0), (false, 1, 1), (true, 0, 0), (false, 0, 1)],
+            child_blocks: CHILD_BLOCKS,
+            blocks: (2, 1, 5),
+        },
+        // the page takes the start, and then opens: it is taken before it is sent
+        Row {
+            parent: &[Parent::Took, Parent::Main],
+            forwards: 0,
+            child: &[Child::Main, Child::Quiet, Child::Open],
+            entries: (0, 0, 0),
+            parent_blocks: &[(true, 0, 0), (false, 1, 0)],
+            child_blocks: &[(true, false, 0), (false, false, 1)],
+            blocks: (0, 0, 0),
+        },
+    ];
+    walks(rt.alloc(), ROWS)
 }
 
 #[test]
 fn what_an_entry_sends_is_told_by_those_before_it(rt: HostRuntime) -> Result<(), Fail> {
-    walks(
-        rt.alloc(),
-        &[
-            // the first suspend and the last resume are sent, so there are three messages to take, and not five
-            Row {
-                parent: &[Parent::Took, Parent::Took, Parent::Took, Parent::Took],
-                forwards: 0,
-                child: &[
-                    Child::Open,
-                    Child::Suspend,
-                    Child::Suspend,
-                    Child::Resume,
-                    Child::Resume,
-                ],
-                entries: (3, 0, 5),
-                parent_blocks: &[(true, 0, 0), (true, 0, 0), (true, 0, 0), (true, 0, 0)],
-                child_blocks: &[
-                    (false, false, 1),
-                    (false, false, 1),
-                    (false, false, 0),
-                    (false, false, 0),
-                    (false, false, 1),
-                ],
-                blocks: (3, 0, 5),
-            },
-            // the bytes are reported when their callback returns
-            Row {
-                parent: &[Parent::Back, Parent::Took],
-                forwards: 1,
-                child: &[Child::Back, Child::Bytes, Child::Finish],
-                entries: (2, 1, 3),
-                parent_blocks: &[(false, 0, 1), (true, 0, 0)],
-                child_blocks: &[(false, true, 0), (false, false, 1)],
-                blocks: (2, 1, 2),
-            },
-        ],
-    )
+    const ROWS: &[Row] = &[
+        // the first suspend and the last resume are sent, so there are three messages to take, and not five
+        Row {
+            parent: &[Parent::Took, Parent::Took, Parent::Took, Parent::Took],
+            forwards: 0,
+            child: &[
+                Child::Open,
+                Child::Suspend,
+                Child::Suspend,
+                Child::Resume,
+                Child::Resume,
+            ],
+            entries: (3, 0, 5),
+            parent_blocks: &[(true, 0, 0), (true, 0, 0), (true, 0, 0), (true, 0, 0)],
+            child_blocks: &[
+                (false, false, 1),
+                (false, false, 1),
+                (false, false, 0),
+                (false, false, 0),
+                (false, false, 1),
+            ],
+            blocks: (3, 0, 5),
+        },
+        // the bytes are reported when their callback returns
+        Row {
+            parent: &[Parent::Back, Parent::Took],
+            forwards: 1,
+            child: &[Child::Back, Child::Bytes, Child::Finish],
+            entries: (2, 1, 3),
+            parent_blocks: &[(false, 0, 1), (true, 0, 0)],
+            child_blocks: &[(false, true, 0), (false, false, 1)],
+            blocks: (2, 1, 2),
+        },
+    ];
+    walks(rt.alloc(), ROWS)
 }
 
 /// Whether the walk places all of the two journals of this end.
@@ -403,13 +395,11 @@ fn plays_are_placed(alloc: Global, texts: &[&[u8]]) -> Result<(), Fail> {
 
 #[test]
 fn the_journals_of_a_play_are_placed(rt: HostRuntime) -> Result<(), Fail> {
-    plays_are_placed(
-        rt.alloc(),
-        &[
-            b"script 1\nchannel\nhop response 200\npiece ab\npiece cd\nend ok\nwindow 1\n",
-            b"script 1\nchannel\nhop redirect 302 allow\nhop response 200\npiece a\nend ok\nstart back\n",
-            b"script 1\nchannel\nhop response 200\npiece a\npiece b\nend ok\nat start retarget w1\nat data 1 fail 80004005\n",
-            b"script 1\nchannel\nhop fail 804b000d\nchannel\nhop response 200\nend ok\nclosed\n",
-        ],
-    )
+    const TEXTS: &[&[u8]] = &[
+        b"script 1\nchannel\nhop response 200\npiece ab\npiece cd\nend ok\nwindow 1\n",
+        b"script 1\nchannel\nhop redirect 302 allow\nhop response 200\npiece a\nend ok\nstart back\n",
+        b"script 1\nchannel\nhop response 200\npiece a\npiece b\nend ok\nat start retarget w1\nat data 1 fail 80004005\n",
+        b"script 1\nchannel\nhop fail 804b000d\nchannel\nhop response 200\nend ok\nclosed\n",
+    ];
+    plays_are_placed(rt.alloc(), TEXTS)
 }

@@ -105,27 +105,23 @@ fn a_response_is_played_to_its_stop(rt: HostRuntime) -> Result<(), Fail> {
 
 #[test]
 fn a_step_that_is_not_enabled_is_idle(rt: HostRuntime) -> Result<(), Fail> {
-    plays(
-        rt.alloc(),
-        SCRIPT,
-        &[
-            (Step::Main, Moved::Idle),
-            (Step::Verdict, Moved::Idle),
-            (Step::Fetch, Moved::Idle),
-            (Step::Up, Moved::Idle),
-            (Step::Forward, Moved::Idle),
-            (Step::Back, Moved::Idle),
-            (Step::Release, Moved::Idle),
-            (Step::Begin(Target::Main), Moved::Idle),
-            (Step::Finish(Target::Main), Moved::Idle),
-            (Step::Act, Moved::Did),
-            (Step::Act, Moved::Idle),
-            (Step::Up, Moved::Did),
-            (Step::Up, Moved::Idle),
-            (Step::Read(1), Moved::Idle),
-        ],
-        REPORT,
-    )
+    const STEPS: &[(Step, Moved)] = &[
+        (Step::Main, Moved::Idle),
+        (Step::Verdict, Moved::Idle),
+        (Step::Fetch, Moved::Idle),
+        (Step::Up, Moved::Idle),
+        (Step::Forward, Moved::Idle),
+        (Step::Back, Moved::Idle),
+        (Step::Release, Moved::Idle),
+        (Step::Begin(Target::Main), Moved::Idle),
+        (Step::Finish(Target::Main), Moved::Idle),
+        (Step::Act, Moved::Did),
+        (Step::Act, Moved::Idle),
+        (Step::Up, Moved::Did),
+        (Step::Up, Moved::Idle),
+        (Step::Read(1), Moved::Idle),
+    ];
+    plays(rt.alloc(), SCRIPT, STEPS, REPORT)
 }
 
 #[test]
