@@ -2,6 +2,7 @@
 
 ghost use Rattle.std.specs.Prelude.{◌≡◌, ◌≤◌, [], length};
 
+use crate::rows::none_wrong;
 use nk_back_parent::BackParent;
 use nk_base::{BackMsg, Memory, Moved, Out, OutList};
 use std::alloc::Global;
@@ -110,7 +111,7 @@ const IDLE: Answer = Answer::Moved(Moved::Idle);
 
 #[test]
 fn what_goes_in_comes_out_in_order(rt: HostRuntime) {
-    let rows = [
+    let rows = &[
         (Call::Hand(0), Answer::Done),
         (Call::Hand(1), Answer::Done),
         (Call::Forward, DID),
@@ -121,12 +122,12 @@ fn what_goes_in_comes_out_in_order(rt: HostRuntime) {
         (Call::Take, Answer::Message(None)),
         (Call::Count, Answer::Count(2)),
     ];
-    assert_eq!(rt; first_wrong(rt.alloc(), &rows), None);
+    none_wrong(&rt, first_wrong(rt.alloc(), rows));
 }
 
 #[test]
 fn a_message_is_moved_behind_those_that_were_moved(rt: HostRuntime) {
-    let rows = [
+    let rows = &[
         (Call::Forward, IDLE),
         (Call::Count, Answer::Count(0)),
         (Call::Hand(3), Answer::Done),
@@ -143,5 +144,5 @@ fn a_message_is_moved_behind_those_that_were_moved(rt: HostRuntime) {
         (Call::Take, Answer::Message(Some(2))),
         (Call::Take, Answer::Message(Some(1))),
     ];
-    assert_eq!(rt; first_wrong(rt.alloc(), &rows), None);
+    none_wrong(&rt, first_wrong(rt.alloc(), rows));
 }

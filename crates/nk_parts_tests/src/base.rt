@@ -3,6 +3,7 @@
 ghost use Rattle.std.specs.Prelude.{◌≤◌, ◌+◌, length, IsTrue};
 ghost use Rattle.nk_base.specs.Ranges.{IsUpInRange};
 
+use crate::rows::{none_wrong, right};
 use nk_base::{
     BackMsg, ByteList, Entry, Field, Fields, Grow, Head, HeadError, MainMsg, Name, Out, OutList,
     Piece, PieceError, Status, Target, UpMsg, Value,
@@ -12,7 +13,7 @@ use std::mem::size_of;
 
 mod messages;
 
-pub(crate) use messages::{Numbered, first_confused};
+pub(crate) use messages::{Numbered, first_confused, is_as, share_of};
 
 fn field_of(alloc: Global, name: Name, value: &[u8]) -> Option<Field> {
     let value = Value::new(alloc, value).ok()?;
@@ -76,12 +77,12 @@ fn first_wrong_head(alloc: Global, rows: &[HeadRow]) -> Option<usize> {
 
 #[test]
 fn a_head_that_is_refused_names_its_cause(rt: HostRuntime) {
-    let html = b"text/html".as_slice();
-    let rows = [
+    const HTML: &[u8] = b"text/html";
+    let rows = &[
         HeadRow(99, 0, b"", b"", Some(HeadError::BadCode(99))),
-        HeadRow(200, 1, b"A", html, Some(HeadError::BadName(0))),
+        HeadRow(200, 1, b"A", HTML, Some(HeadError::BadName(0))),
         HeadRow(200, 65, b"vary", b"accept", Some(HeadError::TooMany(65))),
-        HeadRow(200, 2, b"x_1", html, None),
+        HeadRow(200, 2, b"x_1", HTML, None),
         HeadRow(100, 0, b"", b"", None),
         HeadRow(999, 64, b"vary", b"accept", None),
         HeadRow(1000, 0, b"", b"", Some(HeadError::BadCode(1000))),
@@ -89,12 +90,12 @@ fn a_head_that_is_refused_names_its_cause(rt: HostRuntime) {
         HeadRow(200, 65, b"A", b"", Some(HeadError::TooMany(65))),
         HeadRow(200, 64, b"A", b"", Some(HeadError::BadName(63))),
         HeadRow(200, 64, b"a", b"", Some(HeadError::BadValue(63))),
-        HeadRow(200, 3, b"", html, Some(HeadError::BadName(2))),
+        HeadRow(200, 3, b"", HTML, Some(HeadError::BadName(2))),
         HeadRow(200, 3, b"vary", b" accept", Some(HeadError::BadValue(2))),
         HeadRow(200, 3, b"vary", b"accept ", Some(HeadError::BadValue(2))),
         HeadRow(200, 3, b"vary", b"a  b", None),
     ];
-    assert_eq!(rt; first_wrong_head(rt.alloc(), &rows), None);
+    none_wrong(&rt, first_wrong_head(rt.alloc(), rows));
 }
 
 const NAME_BYTES: &[u8] = b"abcdefghijklmnopqrstuvwxyz0123456789!#$%&'*+-.^_`|~";
@@ -119,10 +120,10 @@ fn is_byte_so(alloc: Global, byte: u8) -> bool {
         && within == Some(0x20 <= byte && byte <= 0x7e)
 }
 
-fn first_wrong_byte(alloc: Global) -> Option<u8> {
+fn first_wrong_byte(alloc: Global) -> Option<usize> {
     for byte in 0..=255 {
         if !is_byte_so(alloc, byte) {
-            return Some(byte);
+            return Some(usize::from(byte));
         }
     }
     None
@@ -130,7 +131,7 @@ fn first_wrong_byte(alloc: Global) -> Option<u8> {
 
 #[test]
 fn names_and_values_have_their_bytes(rt: HostRuntime) {
-    assert_eq!(rt; first_wrong_byte(rt.alloc()), None);
+    none_wrong(&rt, first_wrong_byte(rt.alloc()));
 }
 
 /// Whether so many bytes are a name, and a value.
@@ -151,7 +152,7 @@ fn first_wrong_length(alloc: Global, rows: &[(usize, bool, bool)]) -> Option<usi
 
 #[test]
 fn names_and_values_have_their_lengths(rt: HostRuntime) {
-    let rows = [
+    let rows = &[
         (0, false, false),
         (1, true, true),
         (64, true, true),
@@ -159,7 +160,7 @@ fn names_and_values_have_their_lengths(rt: HostRuntime) {
         (8192, false, true),
         (8193, false, false),
     ];
-    assert_eq!(rt; first_wrong_length(rt.alloc(), &rows), None);
+    none_wrong(&rt, first_wrong_length(rt.alloc(), rows));
 }
 
 /// The size of the share of a piece of these bytes, where it has the bytes too.
@@ -205,14 +206,14 @@ fn first_wrong_size(alloc: Global, rows: &[(usize, Result<u32, PieceError>)]) ->
 
 #[test]
 fn a_piece_has_1_to_131072_bytes(rt: HostRuntime) {
-    let rows = [
+    let rows = &[
         (0, Err(PieceError::Empty)),
         (1, Ok(1)),
         (131_071, Ok(131_071)),
         (131_072, Ok(131_072)),
         (131_073, Err(PieceError::TooLong)),
     ];
-    assert_eq!(rt; first_wrong_size(rt.alloc(), &rows), None);
+    none_wrong(&rt, first_wrong_size(rt.alloc(), rows));
 }
 
 /// A part of a piece, so many bytes from this one on; none where they are none, or do not lie in it.
@@ -238,64 +239,76 @@ fn has_bytes(piece: Option<Piece>, bytes: Option<&[u8]>) -> bool {
     }
 }
 
-/// The number of the first row of where a part of that part begins, its size and its bytes that is not so.
-fn first_wrong_part(
-    alloc: Global,
-    rows: &[(u32, u32, Option<&'static [u8]>)],
-) -> Option<Option<usize>> {
-    let middle = middle(alloc)?;
+/// Where a part of that part begins, its size, and its bytes.
+#[derive(Clone, Copy, Drop)]
+struct PartRow(u32, u32, Option<&'static [u8]>);
+
+fn first_wrong_part_of(middle: &Piece, rows: &[PartRow]) -> Option<usize> {
     for (i, row) in rows.iter().enumerate() {
-        if !has_bytes(part(&middle, row.0, row.1), row.2) {
-            return Some(Some(i));
+        if !has_bytes(part(middle, row.0, row.1), row.2) {
+            return Some(i);
         }
     }
-    Some(None)
+    None
+}
+
+/// The number of the first row that is not so.
+fn first_wrong_part(alloc: Global, rows: &[PartRow]) -> Option<usize> {
+    match middle(alloc) {
+        Some(middle) => first_wrong_part_of(&middle, rows),
+        None => Some(0),
+    }
 }
 
 #[test]
 fn a_part_of_a_part_has_its_bytes(rt: HostRuntime) {
-    let rows = [
-        (0, 4, Some(b"bcde".as_slice())),
-        (0, 1, Some(b"b".as_slice())),
-        (1, 2, Some(b"cd".as_slice())),
-        (3, 1, Some(b"e".as_slice())),
-        (0, 0, None),
-        (0, 5, None),
-        (2, 3, None),
-        (4, 1, None),
+    let rows = &[
+        PartRow(0, 4, Some(b"bcde")),
+        PartRow(0, 1, Some(b"b")),
+        PartRow(1, 2, Some(b"cd")),
+        PartRow(3, 1, Some(b"e")),
+        PartRow(0, 0, None),
+        PartRow(0, 5, None),
+        PartRow(2, 3, None),
+        PartRow(4, 1, None),
     ];
-    assert_eq!(rt; first_wrong_part(rt.alloc(), &rows), Some(None));
+    none_wrong(&rt, first_wrong_part(rt.alloc(), rows));
 }
 
-/// How many fields there are in a share of a list of one, and then in the share and in the list once two were added to
-/// the share and one to the list; and whether a share that is left alone is as the list.
+/// Whether a new share of a list is as the list, and this one is not.
+fn is_left_alone(list: &Fields, share: &Fields) -> Option<bool> {
+    let again = list.share().ok()?;
+    Some(again.same(list) && !share.same(list))
+}
+
+/// How many fields there are in a share of a list, and then in the share and in the list once two were added to the
+/// share and one to the list; and whether a share that is left alone is as the list.
+fn counts_of(alloc: Global, list: &mut Fields, share: &mut Fields) -> Option<([usize; 3], bool)> {
+    let before = share.len();
+    add_fields(alloc, share, 2, b"age", b"0")?;
+    add_field(alloc, list, b"age", b"1")?;
+    let counts = [before, share.len(), list.len()];
+    Some((counts, is_left_alone(list, share)?))
+}
+
+/// The same for a list of one.
 fn counts(alloc: Global) -> Option<([usize; 3], bool)> {
     let mut list = fields(alloc, 1, b"vary", b"accept")?;
     let mut share = list.share().ok()?;
-    let before = share.len();
-    add_fields(alloc, &mut share, 2, b"age", b"0")?;
-    add_field(alloc, &mut list, b"age", b"1")?;
-    let again = list.share().ok()?;
-    Some((
-        [before, share.len(), list.len()],
-        again.same(&list) && !share.same(&list),
-    ))
+    counts_of(alloc, &mut list, &mut share)
 }
 
 #[test]
 fn a_list_that_is_shared_is_left_as_it_is(rt: HostRuntime) {
-    assert_eq!(rt; counts(rt.alloc()), Some(([1, 3, 2], true)));
+    right(&rt, counts(rt.alloc()) == Some(([1, 3, 2], true)));
 }
 
 #[test]
 fn what_carries_a_piece_is_small(rt: HostRuntime) {
-    let sizes = [
-        size_of::<Piece>(),
-        size_of::<Entry>(),
-        size_of::<MainMsg>(),
-        size_of::<BackMsg>(),
-    ];
-    assert_eq!(rt; sizes, [16, 32, 40, 40]);
+    right(&rt, size_of::<Piece>() == 16);
+    right(&rt, size_of::<Entry>() == 32);
+    right(&rt, size_of::<MainMsg>() == 40);
+    right(&rt, size_of::<BackMsg>() == 40);
 }
 
 /// Adds a byte and then more.
@@ -327,8 +340,8 @@ fn grown(alloc: Global) -> Option<(bool, usize)> {
 
 #[test]
 fn lists_take_what_is_pushed(rt: HostRuntime) {
-    let both = (gathered(rt.alloc()), grown(rt.alloc()));
-    assert_eq!(rt; both, (Some((3, true, true)), Some((true, 3))));
+    right(&rt, gathered(rt.alloc()) == Some((3, true, true)));
+    right(&rt, grown(rt.alloc()) == Some((true, 3)));
 }
 
 /// A list of messages, and how many it was given at most: so few that there is room for more.
@@ -412,7 +425,7 @@ fn first_wrong(alloc: Global, rows: &[(Call, Answer)]) -> Option<usize> {
 
 #[test]
 fn what_is_staged_is_sent_in_order(rt: HostRuntime) {
-    let rows = [
+    let rows = &[
         (Call::Stage(UpMsg::Open), Answer::Done),
         (Call::Stage(UpMsg::Suspend), Answer::Done),
         (Call::Take, Answer::Message(None)),
@@ -431,7 +444,7 @@ fn what_is_staged_is_sent_in_order(rt: HostRuntime) {
         (Call::Drop, Answer::Done),
         (Call::Take, Answer::Message(None)),
     ];
-    assert_eq!(rt; first_wrong(rt.alloc(), &rows), None);
+    none_wrong(&rt, first_wrong(rt.alloc(), rows));
 }
 
 /// A status, its number, and whether it is a failure and is legal.
@@ -451,7 +464,7 @@ fn first_wrong_status(rows: &[StatusRow]) -> Option<usize> {
 
 #[test]
 fn statuses_have_their_numbers(rt: HostRuntime) {
-    let rows = [
+    let rows = &[
         StatusRow(Status::OK, 0, false, true),
         StatusRow(Status::FAILURE, 0x8000_4005, true, true),
         StatusRow(Status::BINDING_ABORTED, 0x804b_0002, true, true),
@@ -461,19 +474,19 @@ fn statuses_have_their_numbers(rt: HostRuntime) {
         StatusRow(Status::STREAM_CLOSED, 0x8047_0002, true, true),
         StatusRow(Status::STREAM_WOULD_BLOCK, 0x8047_0007, true, true),
     ];
-    assert_eq!(rt; first_wrong_status(&rows), None);
+    none_wrong(&rt, first_wrong_status(rows));
 }
 
 #[test]
 fn a_status_is_0_or_has_its_top_bit_set(rt: HostRuntime) {
-    let rows = [
+    let rows = &[
         StatusRow(Status(0), 0, false, true),
         StatusRow(Status(1), 1, false, false),
         StatusRow(Status(0x7fff_ffff), 0x7fff_ffff, false, false),
         StatusRow(Status(0x8000_0000), 0x8000_0000, true, true),
         StatusRow(Status(0xffff_ffff), 0xffff_ffff, true, true),
     ];
-    assert_eq!(rt; first_wrong_status(&rows), None);
+    none_wrong(&rt, first_wrong_status(rows));
 }
 
 /// Whether each of the targets is itself alone.
@@ -490,11 +503,11 @@ fn are_apart(targets: &[Target]) -> bool {
 
 #[test]
 fn each_worker_is_a_target_of_its_own(rt: HostRuntime) {
-    let targets = [
+    let targets = &[
         Target::Main,
         Target::Worker(1),
         Target::Worker(16),
         Target::Back,
     ];
-    assert!(rt; are_apart(&targets));
+    right(&rt, are_apart(targets));
 }

@@ -1,5 +1,6 @@
 // The first failure of a channel, of all the statuses that come.
 
+use crate::rows::none_wrong;
 use nk_base::Status;
 use nk_cancel::First;
 
@@ -28,27 +29,27 @@ fn first_wrong(rows: &[Row]) -> Option<usize> {
 
 #[test]
 fn the_first_of_two_failures_is_kept(rt: HostRuntime) {
-    let reset = Some(Status::NET_RESET);
-    let rows = [
+    const RESET: Option<Status> = Some(Status::NET_RESET);
+    let rows = &[
         Row(Status::OK, false, None),
-        Row(Status::NET_RESET, true, reset),
-        Row(Status::BINDING_ABORTED, false, reset),
-        Row(Status::NET_RESET, false, reset),
-        Row(Status::OK, false, reset),
+        Row(Status::NET_RESET, true, RESET),
+        Row(Status::BINDING_ABORTED, false, RESET),
+        Row(Status::NET_RESET, false, RESET),
+        Row(Status::OK, false, RESET),
     ];
-    assert_eq!(rt; first_wrong(&rows), None);
+    none_wrong(&rt, first_wrong(rows));
 }
 
 #[test]
 fn a_failure_has_the_top_bit_set(rt: HostRuntime) {
-    let least = Status(0x8000_0000);
-    let rows = [
+    const LEAST: Status = Status(0x8000_0000);
+    const MOST: Status = Status(0xffff_ffff);
+    let rows = &[
         Row(Status(1), false, None),
         Row(Status(0x7fff_ffff), false, None),
-        Row(least, true, Some(least)),
-        Row(Status(0xffff_ffff), false, Some(least)),
+        Row(LEAST, true, Some(LEAST)),
+        Row(MOST, false, Some(LEAST)),
     ];
-    assert_eq!(rt; first_wrong(&rows), None);
-    let most = Status(0xffff_ffff);
-    assert_eq!(rt; first_wrong(&[Row(most, true, Some(most))]), None);
+    none_wrong(&rt, first_wrong(rows));
+    none_wrong(&rt, first_wrong(&[Row(MOST, true, Some(MOST))]));
 }

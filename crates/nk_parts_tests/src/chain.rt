@@ -1,5 +1,6 @@
 // The list with stable places: its order, and that an item keeps its place while others come and go.
 
+use crate::rows::{none_wrong, right};
 use nk_chain::Chain;
 use std::alloc::Global;
 
@@ -106,12 +107,12 @@ fn seen(alloc: Global) -> Option<Seen> {
 fn chain_calls(rt: HostRuntime) {
     let rest = [Some(1), Some(7), None];
     let all = (true, [0, 1, 2], Some(0), [1, 2], rest);
-    assert_eq!(rt; seen(rt.alloc()), Some(all));
+    right(&rt, seen(rt.alloc()) == Some(all));
 }
 
 #[test]
 fn items_come_out_from_the_front(rt: HostRuntime) {
-    let rows = [
+    let rows = &[
         (Call::Pop, Answer::Item(None)),
         (Call::First, Answer::Item(None)),
         (Call::IsEmpty, Answer::Yes(true)),
@@ -140,5 +141,5 @@ fn items_come_out_from_the_front(rt: HostRuntime) {
         (Call::Back(8), Answer::Done),
         (Call::Pop, Answer::Item(Some(8))),
     ];
-    assert_eq!(rt; first_wrong(rt.alloc(), &rows), None);
+    none_wrong(&rt, first_wrong(rt.alloc(), rows));
 }

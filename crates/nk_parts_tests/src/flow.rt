@@ -1,5 +1,6 @@
 // The send window of a channel: what credit is left, and whether a piece may be sent.
 
+use crate::rows::none_wrong;
 use nk_flow::Window;
 
 /// A call of a window.
@@ -38,7 +39,7 @@ fn first_wrong(size: u32, rows: &[(Call, Option<(bool, i64)>)]) -> Option<usize>
 
 #[test]
 fn a_window_of_ten_bytes_fills_and_empties(rt: HostRuntime) {
-    let rows = [
+    let rows = &[
         (Call::Look, Some((true, 10))),
         (Call::Sent(8), Some((true, 2))),
         (Call::Sent(8), Some((false, -6))),
@@ -46,12 +47,12 @@ fn a_window_of_ten_bytes_fills_and_empties(rt: HostRuntime) {
         (Call::Read(7), Some((true, 1))),
         (Call::Read(131_072), Some((true, 10))),
     ];
-    assert_eq!(rt; first_wrong(10, &rows), None);
+    none_wrong(&rt, first_wrong(10, rows));
 }
 
 #[test]
 fn the_least_window_lets_one_piece_go_at_a_time(rt: HostRuntime) {
-    let rows = [
+    let rows = &[
         (Call::Sent(5), Some((false, -4))),
         (Call::Read(4), Some((false, 0))),
         (Call::Sent(5), None),
@@ -63,22 +64,22 @@ fn the_least_window_lets_one_piece_go_at_a_time(rt: HostRuntime) {
         (Call::Read(131_071), Some((false, 0))),
         (Call::Read(4_294_967_295), Some((true, 1))),
     ];
-    assert_eq!(rt; first_wrong(1, &rows), None);
+    none_wrong(&rt, first_wrong(1, rows));
 }
 
 #[test]
 fn credit_stays_within_any_window(rt: HostRuntime) {
-    let none = [
+    let none = &[
         (Call::Look, Some((false, 0))),
         (Call::Sent(0), None),
         (Call::Read(5), Some((false, 0))),
     ];
-    assert_eq!(rt; first_wrong(0, &none), None);
-    let most = [
+    none_wrong(&rt, first_wrong(0, none));
+    let most = &[
         (Call::Look, Some((true, 4_294_967_295))),
         (Call::Sent(131_072), Some((true, 4_294_836_223))),
         (Call::Read(131_071), Some((true, 4_294_967_294))),
         (Call::Read(4_294_967_295), Some((true, 4_294_967_295))),
     ];
-    assert_eq!(rt; first_wrong(4_294_967_295, &most), None);
+    none_wrong(&rt, first_wrong(4_294_967_295, most));
 }

@@ -1,5 +1,6 @@
 // The hold: what waits for its start, and what a release gives.
 
+use crate::rows::none_wrong;
 use nk_base::{BackMsg, Fields, Head, Piece, Status};
 use nk_hold::{Held, Hold, Kept, Released};
 use std::alloc::Global;
@@ -210,7 +211,7 @@ fn first_wrong(alloc: Global, has_first: bool, rows: &[(Call, Answer)]) -> Optio
 
 #[test]
 fn data_waits_for_its_start_and_keeps_its_order(rt: HostRuntime) {
-    let rows = [
+    let rows = &[
         (Call::Sent(0), Answer::Noted),
         (Call::Data(1, 0), Answer::Kept),
         (Call::Data(0, 2), Answer::Kept),
@@ -233,12 +234,12 @@ fn data_waits_for_its_start_and_keeps_its_order(rt: HostRuntime) {
         (Call::Release, Answer::Idle),
         (Call::Kept, Answer::Number(1)),
     ];
-    assert_eq!(rt; first_wrong(rt.alloc(), false, &rows), None);
+    none_wrong(&rt, first_wrong(rt.alloc(), false, rows));
 }
 
 #[test]
 fn only_the_word_that_a_start_was_sent_is_never_kept(rt: HostRuntime) {
-    let rows = [
+    let rows = &[
         (Call::Sent(5), Answer::Noted),
         (Call::Report, Answer::Report(None)),
         (Call::Start(5), Answer::Kept),
@@ -258,12 +259,12 @@ fn only_the_word_that_a_start_was_sent_is_never_kept(rt: HostRuntime) {
         (Call::Stop(5), Answer::Passed(Message::Stop(5))),
         (Call::Stop(6), Answer::Kept),
     ];
-    assert_eq!(rt; first_wrong(rt.alloc(), false, &rows), None);
+    none_wrong(&rt, first_wrong(rt.alloc(), false, rows));
 }
 
 #[test]
 fn the_first_hop_passes_where_its_start_comes_behind_nothing(rt: HostRuntime) {
-    let rows = [
+    let rows = &[
         (Call::Start(0), Answer::Passed(Message::Start(0))),
         (Call::Data(1, 0), Answer::Kept),
         (Call::Release, Answer::Idle),
@@ -281,5 +282,5 @@ fn the_first_hop_passes_where_its_start_comes_behind_nothing(rt: HostRuntime) {
         (Call::Take, Answer::Message(Some(Message::Data(1, 0)))),
         (Call::Kept, Answer::Number(0)),
     ];
-    assert_eq!(rt; first_wrong(rt.alloc(), true, &rows), None);
+    none_wrong(&rt, first_wrong(rt.alloc(), true, rows));
 }

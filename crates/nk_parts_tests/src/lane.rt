@@ -1,9 +1,10 @@
 // Lanes: what is sent on one end is taken at the other, at most as much as the capacity; and messages as frames, on each lane.
 
-ghost use Rattle.std.specs.Prelude.{IfSome};
+ghost use Rattle.std.specs.Prelude.{◌≡◌, ◌<◌, [], IfSome};
 ghost use Rattle.nk_base.specs.Ranges.{IsMainInRange, IsBackInRange, IsUpInRange};
 ghost use Rattle.nk_lane.specs.Ends.{IsLane};
 
+use crate::rows::{none_wrong, right};
 use nk_base::{BackMsg, Entry, Fields, Head, MainMsg, Out, Piece, Status, UpMsg};
 use nk_lane::{AnyEntry, EntryOut, FrameOut, SendEnd, Spelled, TakeEnd, lane, settle};
 use nk_wire::{Frame, Framed};
@@ -77,22 +78,26 @@ fn make(driven: &mut Driven, call: Call) -> Answer {
 }
 
 /// The number of the first call that answers otherwise than its row says.
-fn first_wrong(alloc: Global, capacity: u32, rows: &[(Call, Answer)]) -> Option<usize> {
-    let Ok((sender, taker)) = lane::<Entry, AnyEntry>(alloc, capacity) else {
-        return Some(rows.len());
-    };
-    let mut driven = Driven { sender, taker };
+fn first_wrong_of(driven: &mut Driven, rows: &[(Call, Answer)]) -> Option<usize> {
     for (i, row) in rows.iter().enumerate() {
-        if make(&mut driven, row.0) != row.1 {
+        if make(driven, row.0) != row.1 {
             return Some(i);
         }
     }
     None
 }
 
+/// The same for a new lane.
+fn first_wrong(alloc: Global, capacity: u32, rows: &[(Call, Answer)]) -> Option<usize> {
+    match lane::<Entry, AnyEntry>(alloc, capacity) {
+        Ok((sender, taker)) => first_wrong_of(&mut Driven { sender, taker }, rows),
+        Err(_) => Some(rows.len()),
+    }
+}
+
 #[test]
 fn a_lane_of_three_gives_at_most_three(rt: HostRuntime) {
-    let rows = [
+    let rows = &[
         (Call::Room, Answer::Room(3)),
         (Call::Take, Answer::Entry(None)),
         (Call::Send(1), Answer::Done),
@@ -112,24 +117,24 @@ fn a_lane_of_three_gives_at_most_three(rt: HostRuntime) {
         (Call::Settle, Answer::Done),
         (Call::Take, Answer::Entry(None)),
     ];
-    assert_eq!(rt; first_wrong(rt.alloc(), 3, &rows), None);
+    none_wrong(&rt, first_wrong(rt.alloc(), 3, rows));
 }
 
 #[test]
 fn a_lane_of_none_gives_none(rt: HostRuntime) {
-    let rows = [
+    let rows = &[
         (Call::Room, Answer::Room(0)),
         (Call::Send(1), Answer::Refused),
         (Call::Peek, Answer::Entry(None)),
         (Call::Settle, Answer::Done),
         (Call::Take, Answer::Entry(None)),
     ];
-    assert_eq!(rt; first_wrong(rt.alloc(), 0, &rows), None);
+    none_wrong(&rt, first_wrong(rt.alloc(), 0, rows));
 }
 
 #[test]
 fn a_lane_is_settled_after_any_sends_and_takes(rt: HostRuntime) {
-    let rows = [
+    let rows = &[
         (Call::Settle, Answer::Done),
         (Call::Send(1), Answer::Done),
         (Call::Settle, Answer::Done),
@@ -146,12 +151,22 @@ fn a_lane_is_settled_after_any_sends_and_takes(rt: HostRuntime) {
         (Call::Settle, Answer::Done),
         (Call::Take, Answer::Entry(None)),
     ];
-    assert_eq!(rt; first_wrong(rt.alloc(), 100, &rows), None);
+    none_wrong(&rt, first_wrong(rt.alloc(), 100, rows));
 }
 
 const OK: Status = Status::OK;
 
 const RESET: Status = Status::NET_RESET;
+
+/// Messages of one lane, one for each number.
+trait Sampled: Framed + Drop {
+    ghost use Rattle.std.specs.Prelude.{IfSome};
+
+    fn sample(alloc: Global, number: usize) -> Option<Self>
+        ensures { IfSome result (λ m. Self.IsInRange m) };
+
+    fn is(&self, other: &Self) -> bool;
+}
 
 /// A message of the main lane for each number from 0 to 3.
 fn main_sample(alloc: Global, number: usize) -> Option<MainMsg>
@@ -212,13 +227,13 @@ fn up_sample(number: usize) -> Option<UpMsg>
     }
 }
 
-/// The message as it comes out of a lane. It is on the lane only once it was sent.
-fn through<M: Framed + Drop>(alloc: Global, message: M) -> Option<M>
-    requires { M.IsInRange message }
-{
-    let (sender, mut taker) = lane::<Frame, Spelled<M>>(alloc, 1).ok()?;
-    let mut out = FrameOut::new(alloc, sender);
-    if out.stage(message).is_err() || taker.take().is_some() {
+/// What comes out of a lane of what is ready to be sent. It is on the lane only once it was sent.
+fn taken<M: Framed + Drop>(
+    alloc: Global,
+    out: &mut FrameOut<M>,
+    taker: &mut TakeEnd<Frame, Spelled<M>>,
+) -> Option<M> {
+    if taker.take().is_some() {
         return None;
     }
     out.send_staged();
@@ -226,42 +241,87 @@ fn through<M: Framed + Drop>(alloc: Global, message: M) -> Option<M>
     M::decode(alloc, &frame).ok()
 }
 
-fn main_comes_through(alloc: Global, number: usize) -> Option<bool> {
-    let message = through(alloc, main_sample(alloc, number)?)?;
-    Some(message.same(&main_sample(alloc, number)?))
+/// The message as it comes out of a lane.
+fn through<M: Framed + Drop>(alloc: Global, message: M) -> Option<M>
+    requires { M.IsInRange message }
+{
+    let (sender, mut taker) = lane::<Frame, Spelled<M>>(alloc, 1).ok()?;
+    let mut out = FrameOut::new(alloc, sender);
+    if out.stage(message).is_err() {
+        return None;
+    }
+    taken(alloc, &mut out, &mut taker)
 }
 
-fn back_comes_through(alloc: Global, number: usize) -> Option<bool> {
-    let message = through(alloc, back_sample(alloc, number)?)?;
-    Some(message.same(&back_sample(alloc, number)?))
+impl Sampled for MainMsg {
+    fn sample(alloc: Global, number: usize) -> Option<MainMsg> {
+        main_sample(alloc, number)
+    }
+
+    fn is(&self, other: &MainMsg) -> bool {
+        self.same(other)
+    }
 }
 
-fn up_comes_through(alloc: Global, number: usize) -> Option<bool> {
-    let message = through(alloc, up_sample(number)?)?;
-    Some(message.same(&up_sample(number)?))
+impl Sampled for BackMsg {
+    fn sample(alloc: Global, number: usize) -> Option<BackMsg> {
+        back_sample(alloc, number)
+    }
+
+    fn is(&self, other: &BackMsg) -> bool {
+        self.same(other)
+    }
+}
+
+impl Sampled for UpMsg {
+    fn sample(_alloc: Global, number: usize) -> Option<UpMsg> {
+        up_sample(number)
+    }
+
+    fn is(&self, other: &UpMsg) -> bool {
+        self.same(other)
+    }
+}
+
+fn comes_through<M: Sampled>(alloc: Global, number: usize) -> Option<bool> {
+    let sample = M::sample(alloc, number)?;
+    let message = through(alloc, M::sample(alloc, number)?)?;
+    Some(message.is(&sample))
+}
+
+/// The number of the first of so many messages that does not come through its lane as it was sent.
+fn first_lost<M: Sampled>(alloc: Global, count: usize) -> Option<usize> {
+    for number in 0..count {
+        if comes_through::<M>(alloc, number) != Some(true) {
+            return Some(number);
+        }
+    }
+    None
 }
 
 #[test]
 fn messages_come_through_each_lane(rt: HostRuntime) {
     let alloc = rt.alloc();
-    for number in 0..4 {
-        assert_eq!(rt; main_comes_through(alloc, number), Some(true));
-        assert_eq!(rt; back_comes_through(alloc, number), Some(true));
-    }
-    for number in 0..7 {
-        assert_eq!(rt; up_comes_through(alloc, number), Some(true));
-    }
+    none_wrong(&rt, first_lost::<MainMsg>(alloc, 4));
+    none_wrong(&rt, first_lost::<BackMsg>(alloc, 4));
+    none_wrong(&rt, first_lost::<UpMsg>(alloc, 7));
 }
 
-/// The code of the entry that comes out, where the one that was dropped does not.
-fn shown(alloc: Global) -> Option<u16> {
-    let (sender, mut taker) = lane::<Entry, AnyEntry>(alloc, 1).ok()?;
-    let mut out = EntryOut::new(alloc, sender);
+/// Whether an entry is ready to be sent, where one before it was dropped.
+fn stages<O: Out<Entry>>(out: &mut O) -> bool
+    requires room { 0 < O.room out.old }
+    requires empty { O.staged out.old ≡ [] }
+{
     if out.stage(entry(404)).is_err() {
-        return None;
+        return false;
     }
     out.drop_staged();
-    if out.stage(entry(200)).is_err() || taker.take().is_some() {
+    out.stage(entry(200)).is_ok()
+}
+
+/// The code of the entry that comes out. It is on the lane only once it was sent.
+fn taken_code(out: &mut EntryOut, taker: &mut TakeEnd<Entry, AnyEntry>) -> Option<u16> {
+    if taker.take().is_some() {
         return None;
     }
     out.send_staged();
@@ -269,7 +329,17 @@ fn shown(alloc: Global) -> Option<u16> {
     code_of(entry.as_ref())
 }
 
+/// The code of the entry that comes out, where the one that was dropped does not.
+fn shown(alloc: Global) -> Option<u16> {
+    let (sender, mut taker) = lane::<Entry, AnyEntry>(alloc, 1).ok()?;
+    let mut out = EntryOut::new(alloc, sender);
+    if !stages(&mut out) {
+        return None;
+    }
+    taken_code(&mut out, &mut taker)
+}
+
 #[test]
 fn an_entry_is_shown_once_it_is_sent(rt: HostRuntime) {
-    assert_eq!(rt; shown(rt.alloc()), Some(200));
+    right(&rt, shown(rt.alloc()) == Some(200));
 }

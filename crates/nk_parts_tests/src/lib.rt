@@ -1,6 +1,7 @@
 //! Tests of the parts by themselves: a file for each crate that is tested, named as the crate without its `nk_`.
 //!
-//! They are tables: rows of calls and of what each is to answer, over a driver that makes one call of a part.
+//! They are tables: rows of calls and of what each is to answer, over a driver that makes one call of a part. The rows are
+//! constants, so that a test is proved at once however many it has; rows has what they share.
 #![tactic(auto)]
 
 #[cfg(test)]
@@ -29,6 +30,8 @@ mod queue;
 mod redirect;
 #[cfg(test)]
 mod retarget;
+#[cfg(test)]
+mod rows;
 #[cfg(test)]
 mod segments;
 #[cfg(test)]

@@ -1,6 +1,7 @@
 // Plans, and what refuses them.
 
 use crate::base::add_field;
+use crate::rows::none_wrong;
 use nk_base::{Fields, Head, Piece, Status};
 use nk_plan::{
     Act, ChannelPlan, Control, Controls, Finish, Hop, Hops, ListenerKind, Pieces, PlanError,
@@ -45,11 +46,6 @@ const RESUME: Control = Control {
     after: 0,
     act: Act::Resume,
 };
-
-/// A response with so many pieces of this size.
-const fn body(pieces: usize, size: usize) -> Met {
-    Met::Response(pieces, size, Finish::Good, 0, true)
-}
 
 /// A plan with these hops, and with no fault but theirs.
 fn plan_of(hops: &[Met]) -> Parts {
@@ -144,20 +140,34 @@ fn add_controls(controls: &mut Controls, items: &[Control]) -> Option<()> {
     Some(())
 }
 
+/// The lists of a plan.
+#[derive(Drop)]
+struct Lists {
+    hops: Hops,
+    reactions: Reactions,
+    controls: Controls,
+}
+
+fn add_all(alloc: Global, lists: &mut Lists, parts: Parts) -> Option<()> {
+    add_hops(alloc, &mut lists.hops, parts.hops)?;
+    add_reactions(&mut lists.reactions, parts.reactions)?;
+    add_controls(&mut lists.controls, parts.controls)
+}
+
 /// The plan with these parts, or why it is refused; nothing where there is no memory for it.
 fn made(alloc: Global, parts: Parts) -> Option<Result<ChannelPlan, PlanError>> {
-    let mut hops = Hops::new(alloc);
-    add_hops(alloc, &mut hops, parts.hops)?;
-    let mut reactions = Reactions::new(alloc);
-    add_reactions(&mut reactions, parts.reactions)?;
-    let mut controls = Controls::new(alloc);
-    add_controls(&mut controls, parts.controls)?;
+    let mut lists = Lists {
+        hops: Hops::new(alloc),
+        reactions: Reactions::new(alloc),
+        controls: Controls::new(alloc),
+    };
+    add_all(alloc, &mut lists, parts)?;
     Some(ChannelPlan::new(
-        hops,
+        lists.hops,
         parts.listener,
         true,
-        reactions,
-        controls,
+        lists.reactions,
+        lists.controls,
         parts.window,
         parts.closed,
         StartLane::Main,
@@ -167,11 +177,26 @@ fn made(alloc: Global, parts: Parts) -> Option<Result<ChannelPlan, PlanError>> {
 /// Whether a plan is refused with this cause, or not refused where there is none.
 fn meets(alloc: Global, parts: Parts, cause: Option<PlanError>) -> bool {
     match made(alloc, parts) {
-        Some(Ok(_)) => cause.is_none(),
-        Some(Err(error)) => cause == Some(error),
+        Some(made) => made.err() == cause,
         None => false,
     }
 }
+
+/// As many redirects as there may be, with a failure behind them.
+const MOST_HOPS: &[Met] = &[
+    REDIRECTS, REDIRECTS, REDIRECTS, REDIRECTS, REDIRECTS, REDIRECTS, REDIRECTS, REDIRECTS,
+    REDIRECTS, REDIRECTS, REDIRECTS, REDIRECTS, REDIRECTS, REDIRECTS, REDIRECTS, REDIRECTS,
+    REDIRECTS, REDIRECTS, REDIRECTS, REDIRECTS, REDIRECTS, REDIRECTS, REDIRECTS, REDIRECTS,
+    REDIRECTS, REDIRECTS, REDIRECTS, REDIRECTS, REDIRECTS, REDIRECTS, REDIRECTS, FAILS,
+];
+
+/// One redirect more.
+const ONE_HOP_MORE: &[Met] = &[
+    REDIRECTS, REDIRECTS, REDIRECTS, REDIRECTS, REDIRECTS, REDIRECTS, REDIRECTS, REDIRECTS,
+    REDIRECTS, REDIRECTS, REDIRECTS, REDIRECTS, REDIRECTS, REDIRECTS, REDIRECTS, REDIRECTS,
+    REDIRECTS, REDIRECTS, REDIRECTS, REDIRECTS, REDIRECTS, REDIRECTS, REDIRECTS, REDIRECTS,
+    REDIRECTS, REDIRECTS, REDIRECTS, REDIRECTS, REDIRECTS, REDIRECTS, REDIRECTS, REDIRECTS, FAILS,
+];
 
 /// Hops, and why a plan with them is refused.
 #[derive(Clone, Copy, Drop)]
@@ -189,62 +214,61 @@ fn first_wrong(alloc: Global, rows: &[HopRow]) -> Option<usize> {
 
 #[test]
 fn hops_are_refused_by_their_number_and_their_order(rt: HostRuntime) {
-    let mut most = [REDIRECTS; 33];
-    most[32] = FAILS;
-    let early = [REDIRECTS, EMPTY, REDIRECTS, FAILS];
-    let rows = [
+    let rows = &[
         HopRow(&[], Some(PlanError::NoHop)),
         HopRow(&[FAILS; 33], Some(PlanError::TooManyHops(33))),
         HopRow(&[FAILS, FAILS], Some(PlanError::EarlyEnd(0))),
         HopRow(&[FAILS, REDIRECTS], Some(PlanError::LastIsRedirect)),
         HopRow(&[FAILS], None),
         HopRow(&[EMPTY], None),
-        HopRow(&most[1..], None),
-        HopRow(&most, Some(PlanError::TooManyHops(33))),
+        HopRow(MOST_HOPS, None),
+        HopRow(ONE_HOP_MORE, Some(PlanError::TooManyHops(33))),
         HopRow(&[REDIRECTS; 32], Some(PlanError::LastIsRedirect)),
-        HopRow(&early, Some(PlanError::EarlyEnd(1))),
+        HopRow(
+            &[REDIRECTS, EMPTY, REDIRECTS, FAILS],
+            Some(PlanError::EarlyEnd(1)),
+        ),
         HopRow(&[REDIRECTS, FAILS, EMPTY], Some(PlanError::EarlyEnd(1))),
     ];
-    assert_eq!(rt; first_wrong(rt.alloc(), &rows), None);
-}
-
-const fn redirects(code: u16, verdict: Verdict) -> Met {
-    Met::Redirect(code, verdict)
+    none_wrong(&rt, first_wrong(rt.alloc(), rows));
 }
 
 #[test]
 fn hops_are_refused_by_what_they_hold(rt: HostRuntime) {
-    let first = Some(PlanError::BadHop(0));
-    let second = Some(PlanError::BadHop(1));
-    let veto = redirects(399, Verdict::Veto(RESET));
-    let no_veto = redirects(300, Verdict::Veto(OK));
-    let cut = Finish::Fail(RESET);
-    let rows = [
-        HopRow(&[REDIRECTS, redirects(400, Verdict::Allow), FAILS], second),
-        HopRow(&[Met::Fail(OK)], first),
-        HopRow(&[Met::Response(0, 0, cut, 1, true)], first),
-        HopRow(&[redirects(299, Verdict::Allow), EMPTY], first),
-        HopRow(&[redirects(300, Verdict::Allow), veto, EMPTY], None),
-        HopRow(&[veto, no_veto, EMPTY], second),
-        HopRow(&[Met::Fail(Status(0x7fff_ffff))], first),
-        HopRow(&[Met::Response(2, 5, cut, 0, true)], None),
-        HopRow(&[Met::Response(0, 0, Finish::Fail(OK), 0, true)], first),
+    const FIRST: Option<PlanError> = Some(PlanError::BadHop(0));
+    const SECOND: Option<PlanError> = Some(PlanError::BadHop(1));
+    const VETO: Met = Met::Redirect(399, Verdict::Veto(RESET));
+    const NO_VETO: Met = Met::Redirect(300, Verdict::Veto(OK));
+    const CUT: Finish = Finish::Fail(RESET);
+    let rows = &[
+        HopRow(
+            &[REDIRECTS, Met::Redirect(400, Verdict::Allow), FAILS],
+            SECOND,
+        ),
+        HopRow(&[Met::Fail(OK)], FIRST),
+        HopRow(&[Met::Response(0, 0, CUT, 1, true)], FIRST),
+        HopRow(&[Met::Redirect(299, Verdict::Allow), EMPTY], FIRST),
+        HopRow(&[Met::Redirect(300, Verdict::Allow), VETO, EMPTY], None),
+        HopRow(&[VETO, NO_VETO, EMPTY], SECOND),
+        HopRow(&[Met::Fail(Status(0x7fff_ffff))], FIRST),
+        HopRow(&[Met::Response(2, 5, CUT, 0, true)], None),
+        HopRow(&[Met::Response(0, 0, Finish::Fail(OK), 0, true)], FIRST),
         HopRow(&[Met::Response(0, 0, Finish::Good, 64, true)], None),
-        HopRow(&[Met::Response(0, 0, Finish::Good, 65, true)], first),
-        HopRow(&[Met::Response(0, 0, Finish::Good, 1, false)], first),
+        HopRow(&[Met::Response(0, 0, Finish::Good, 65, true)], FIRST),
+        HopRow(&[Met::Response(0, 0, Finish::Good, 1, false)], FIRST),
     ];
-    assert_eq!(rt; first_wrong(rt.alloc(), &rows), None);
+    none_wrong(&rt, first_wrong(rt.alloc(), rows));
 }
 
 #[test]
 fn a_body_is_refused_by_its_size(rt: HostRuntime) {
-    let many = Some(PlanError::TooManyPieces(65_537));
-    let large = Some(PlanError::TooManyBytes(67_239_936));
-    let rows = [
-        HopRow(&[body(65_536, 1)], None),
-        HopRow(&[body(65_537, 1)], many),
-        HopRow(&[body(512, 131_072)], None),
-        HopRow(&[body(513, 131_072)], large),
+    const MANY: Option<PlanError> = Some(PlanError::TooManyPieces(65_537));
+    const LARGE: Option<PlanError> = Some(PlanError::TooManyBytes(67_239_936));
+    let rows = &[
+        HopRow(&[Met::Response(65_536, 1, Finish::Good, 0, true)], None),
+        HopRow(&[Met::Response(65_537, 1, Finish::Good, 0, true)], MANY),
+        HopRow(&[Met::Response(512, 131_072, Finish::Good, 0, true)], None),
+        HopRow(&[Met::Response(513, 131_072, Finish::Good, 0, true)], LARGE),
     ];
-    assert_eq!(rt; first_wrong(rt.alloc(), &rows), None);
+    none_wrong(&rt, first_wrong(rt.alloc(), rows));
 }

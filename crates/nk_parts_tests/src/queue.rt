@@ -2,14 +2,16 @@
 
 ghost use Rattle.std.specs.Prelude.{◌≡◌};
 ghost use Rattle.nk_base.specs.Queue.{empty_queue};
+ghost use Rattle.nk_queue.specs.Calls.{MayCallAll};
 
+use crate::rows::{all_right, right};
 use nk_base::{Class, Classed, Target};
 use nk_queue::laws::{PlainQueue, QueueAnswer, QueueBody, QueueCall, answers_of, same_answers};
 use nk_queue::{EventQueue, Offer, Taken};
 use std::alloc::Global;
 
 /// An event that is known by a number.
-#[derive(Clone, Copy, Debug, Drop, PartialEq, Eq)]
+#[derive(Clone, Copy, Drop, PartialEq, Eq)]
 struct Event {
     number: u32,
     class: Class,
@@ -42,6 +44,19 @@ const DATA: Event = Event {
     class: Class::Delivery,
 };
 
+// Whether these calls have these answers.
+fn answers_are<Q: QueueBody<Event>>(
+    alloc: Global,
+    queue: &mut Q,
+    calls: Vec<QueueCall<Event>>,
+    wants: &[QueueAnswer<Event>],
+) -> Option<bool>
+    requires { MayCallAll Event.class (Q.state queue.old) (Q.spare queue.old) calls.items }
+{
+    let answers = answers_of(alloc, queue, calls).ok()?;
+    Some(answers.as_slice() == wants)
+}
+
 // An event runs at once, and the next waits for the flush to take it.
 fn runs_and_takes<Q: QueueBody<Event>>(alloc: Global, queue: &mut Q) -> Option<bool>
     requires { Q.state queue.old ≡ empty_queue }
@@ -54,15 +69,14 @@ fn runs_and_takes<Q: QueueBody<Event>>(alloc: Global, queue: &mut Q) -> Option<b
         QueueCall::Take(Target::Main),
     ]
     .ok()?;
-    let wants = [
+    let wants = &[
         QueueAnswer::Done,
         QueueAnswer::Offered(Offer::RunNow(A)),
         QueueAnswer::Offered(Offer::Queued),
         QueueAnswer::Took(Taken::Event(B)),
         QueueAnswer::Took(Taken::Ended),
     ];
-    let answers = answers_of(alloc, queue, calls).ok()?;
-    Some(answers.as_slice() == wants.as_slice())
+    answers_are(alloc, queue, calls, wants)
 }
 
 // Data goes to a worker, and the queue is suspended before its task runs.
@@ -82,7 +96,7 @@ fn posts_to_a_worker<Q: QueueBody<Event>>(alloc: Global, queue: &mut Q) -> Optio
         QueueCall::Take(WORKER),
     ]
     .ok()?;
-    let wants = [
+    let wants = &[
         QueueAnswer::Done,
         QueueAnswer::Done,
         QueueAnswer::Offered(Offer::Posted(WORKER)),
@@ -94,8 +108,7 @@ fn posts_to_a_worker<Q: QueueBody<Event>>(alloc: Global, queue: &mut Q) -> Optio
         QueueAnswer::Took(Taken::Event(DATA)),
         QueueAnswer::Took(Taken::Ended),
     ];
-    let answers = answers_of(alloc, queue, calls).ok()?;
-    Some(answers.as_slice() == wants.as_slice())
+    answers_are(alloc, queue, calls, wants)
 }
 
 // An event that is queued by force is taken afterwards.
@@ -110,15 +123,14 @@ fn queues_by_force<Q: QueueBody<Event>>(alloc: Global, queue: &mut Q) -> Option<
         QueueCall::Take(Target::Main),
     ]
     .ok()?;
-    let wants = [
+    let wants = &[
         QueueAnswer::Done,
         QueueAnswer::Done,
         QueueAnswer::Offered(Offer::Queued),
         QueueAnswer::Began(true),
         QueueAnswer::Took(Taken::Event(A)),
     ];
-    let answers = answers_of(alloc, queue, calls).ok()?;
-    Some(answers.as_slice() == wants.as_slice())
+    answers_are(alloc, queue, calls, wants)
 }
 
 // What is prepended last is taken first.
@@ -136,7 +148,7 @@ fn prepends<Q: QueueBody<Event>>(alloc: Global, queue: &mut Q) -> Option<bool>
         QueueCall::Take(Target::Main),
     ]
     .ok()?;
-    let wants = [
+    let wants = &[
         QueueAnswer::Done,
         QueueAnswer::Done,
         QueueAnswer::Done,
@@ -146,8 +158,7 @@ fn prepends<Q: QueueBody<Event>>(alloc: Global, queue: &mut Q) -> Option<bool>
         QueueAnswer::Took(Taken::Event(B)),
         QueueAnswer::Took(Taken::Event(A)),
     ];
-    let answers = answers_of(alloc, queue, calls).ok()?;
-    Some(answers.as_slice() == wants.as_slice())
+    answers_are(alloc, queue, calls, wants)
 }
 
 // A cleared queue has its room again.
@@ -166,7 +177,7 @@ fn clears<Q: QueueBody<Event>>(alloc: Global, queue: &mut Q) -> Option<bool>
         QueueCall::Posted(Target::Main),
     ]
     .ok()?;
-    let wants = [
+    let wants = &[
         QueueAnswer::Done,
         QueueAnswer::Done,
         QueueAnswer::Offered(Offer::Queued),
@@ -177,26 +188,27 @@ fn clears<Q: QueueBody<Event>>(alloc: Global, queue: &mut Q) -> Option<bool>
         QueueAnswer::Flushing(None),
         QueueAnswer::Number(0),
     ];
-    let answers = answers_of(alloc, queue, calls).ok()?;
-    Some(answers.as_slice() == wants.as_slice())
+    answers_are(alloc, queue, calls, wants)
 }
 
 #[test]
 fn queue_calls(rt: HostRuntime) {
     let alloc = rt.alloc();
-    let are_so = [
-        runs_and_takes(alloc, &mut EventQueue::new(alloc)),
-        posts_to_a_worker(alloc, &mut EventQueue::new(alloc)),
-        queues_by_force(alloc, &mut EventQueue::new(alloc)),
-        clears(alloc, &mut EventQueue::new(alloc)),
-    ];
-    assert_eq!(rt; are_so, [Some(true); 4]);
+    all_right(
+        &rt,
+        &[
+            runs_and_takes(alloc, &mut EventQueue::new(alloc)),
+            posts_to_a_worker(alloc, &mut EventQueue::new(alloc)),
+            queues_by_force(alloc, &mut EventQueue::new(alloc)),
+            clears(alloc, &mut EventQueue::new(alloc)),
+        ],
+    );
 }
 
 #[test]
 fn prepend_order(rt: HostRuntime) {
     let is_so = prepends(rt.alloc(), &mut EventQueue::new(rt.alloc()));
-    assert_eq!(rt; is_so, Some(true));
+    all_right(&rt, &[is_so]);
 }
 
 // Both bodies answer an offer from another target alike.
@@ -217,45 +229,60 @@ fn answer_alike(alloc: Global) -> Option<bool> {
 #[test]
 fn both_queue_bodies(rt: HostRuntime) {
     let alloc = rt.alloc();
-    let are_so = [
-        runs_and_takes(alloc, &mut PlainQueue::new(alloc)),
-        posts_to_a_worker(alloc, &mut PlainQueue::new(alloc)),
-        queues_by_force(alloc, &mut PlainQueue::new(alloc)),
-        prepends(alloc, &mut PlainQueue::new(alloc)),
-        clears(alloc, &mut PlainQueue::new(alloc)),
-        answer_alike(alloc),
-    ];
-    assert_eq!(rt; are_so, [Some(true); 6]);
+    all_right(
+        &rt,
+        &[
+            runs_and_takes(alloc, &mut PlainQueue::new(alloc)),
+            posts_to_a_worker(alloc, &mut PlainQueue::new(alloc)),
+            queues_by_force(alloc, &mut PlainQueue::new(alloc)),
+            prepends(alloc, &mut PlainQueue::new(alloc)),
+            clears(alloc, &mut PlainQueue::new(alloc)),
+            answer_alike(alloc),
+        ],
+    );
 }
 
-/// Whether an event runs at once here and from behind, then whether it does in a suspended queue, cleared or not, and
-/// whether an event is next there; the target that a resume posts to, whether its task begins, and whether the event
-/// that was put in front is the next.
+/// Whether an event runs at once here and from behind.
+fn runs(queue: &EventQueue<Event>) -> [bool; 2] {
+    [
+        queue.runs_now(&A, Target::Main),
+        queue.runs_now(&A, Target::Back),
+    ]
+}
+
+/// Whether an event runs at once here, whether it would in the cleared queue, and whether an event is next.
+fn runs_or_waits(queue: &EventQueue<Event>) -> [bool; 3] {
+    [
+        queue.runs_now(&A, Target::Main),
+        queue.runs_cleared(&A, Target::Main),
+        queue.next(Target::Main).is_some(),
+    ]
+}
+
+/// Whether the event that was put in front is the next.
+fn is_next(queue: &EventQueue<Event>) -> bool {
+    queue.next(Target::Main) == Some(&B)
+}
+
+/// What is seen of an idle queue, and of one that is suspended; the target that a resume posts to, whether its task
+/// begins, and whether the event that was put in front is the next.
 type Looks = ([bool; 2], [bool; 3], Option<Target>, bool, bool);
 
 fn looks(alloc: Global) -> Option<Looks> {
     let mut queue = EventQueue::new(alloc);
     queue.reserve(1).ok()?;
-    let idle = [
-        queue.runs_now(&A, Target::Main),
-        queue.runs_now(&A, Target::Back),
-    ];
+    let idle = runs(&queue);
     queue.suspend();
     queue.prepend(B);
-    let suspended = [
-        queue.runs_now(&A, Target::Main),
-        queue.runs_cleared(&A, Target::Main),
-        queue.next(Target::Main).is_some(),
-    ];
+    let suspended = runs_or_waits(&queue);
     let resumed = queue.resume();
     let begins = queue.complete(Target::Main);
-    let is_next = queue.next(Target::Main) == Some(&B);
-    Some((idle, suspended, resumed, begins, is_next))
+    Some((idle, suspended, resumed, begins, is_next(&queue)))
 }
 
 #[test]
 fn readers(rt: HostRuntime) {
     let suspended = [false, false, false];
     let wants = ([true, false], suspended, Some(Target::Main), true, true);
-    assert_eq!(rt; looks(rt.alloc()), Some(wants));
+    right(&rt, looks(rt.alloc()) == Some(wants));
 }

@@ -1,5 +1,6 @@
 // The two halves of a redirect: the questions that a parent asks, and the answers that a child gives.
 
+use crate::rows::none_wrong;
 use nk_base::Status;
 use nk_plan::Verdict;
 use nk_redirect::{Answer, Begin, ChildHalf, ParentHalf, Verified};
@@ -34,6 +35,8 @@ const OK: Status = Status::OK;
 const RESET: Status = Status::NET_RESET;
 
 const REFUSED: Status = Status::CONNECTION_REFUSED;
+
+const ALLOW: ChildCall = ChildCall::Verdict(OK, Verdict::Allow);
 
 /// A call, its answer, the hop whose question is open then, and the number of redirects that were followed.
 #[derive(Clone, Copy, Drop)]
@@ -96,10 +99,6 @@ fn first_wrong_of_child(child: &mut ChildHalf, rows: &[ChildRow]) -> Option<usiz
     None
 }
 
-fn verify(hop: u32, status: Status) -> Option<Answer> {
-    Some(Answer::Verify { hop, status })
-}
-
 /// Whether a redirect that is allowed is followed once, where so many were followed before.
 fn is_followed(parent: &mut ParentHalf, child: &mut ChildHalf, done: u32) -> bool {
     let asked = [
@@ -115,17 +114,21 @@ fn is_followed(parent: &mut ParentHalf, child: &mut ChildHalf, done: u32) -> boo
     ];
     let answered = [
         ChildRow(ChildCall::Begin(7), None, Some(7)),
-        ChildRow(ChildCall::Verdict(OK, Verdict::Allow), verify(7, OK), None),
+        ChildRow(
+            ChildCall::Verdict(OK, Verdict::Allow),
+            Some(Answer::Verify { hop: 7, status: OK }),
+            None,
+        ),
     ];
     first_wrong_of_parent(parent, &asked).is_none()
         && first_wrong_of_child(child, &answered).is_none()
 }
 
 /// The number of the first of twenty redirects that is not followed.
-fn first_not_followed(parent: &mut ParentHalf, child: &mut ChildHalf) -> Option<u32> {
+fn first_not_followed(parent: &mut ParentHalf, child: &mut ChildHalf) -> Option<usize> {
     for done in 0..20 {
         if !is_followed(parent, child, done) {
-            return Some(done);
+            return Some(done as usize);
         }
     }
     None
@@ -135,34 +138,29 @@ fn first_not_followed(parent: &mut ParentHalf, child: &mut ChildHalf) -> Option<
 fn twenty_redirects_are_followed_and_no_more(rt: HostRuntime) {
     let mut parent = ParentHalf::new();
     let mut child = ChildHalf::new();
-    assert_eq!(rt; first_not_followed(&mut parent, &mut child), None);
-    let rows = [
+    none_wrong(&rt, first_not_followed(&mut parent, &mut child));
+    let rows = &[
         ParentRow(ParentCall::Begin(7), LOOP, None, 20),
         ParentRow(ParentCall::Verified(7, OK), STRAY, None, 20),
         ParentRow(ParentCall::Followed, ParentAnswer::Refused, None, 20),
     ];
-    assert_eq!(rt; first_wrong_of_parent(&mut parent, &rows), None);
-    let idle = ChildRow(
-        ChildCall::Verdict(OK, Verdict::Allow),
-        Some(Answer::Idle),
-        None,
-    );
-    assert_eq!(rt; first_wrong_of_child(&mut child, &[idle]), None);
+    none_wrong(&rt, first_wrong_of_parent(&mut parent, rows));
+    let idle = &[ChildRow(ALLOW, Some(Answer::Idle), None)];
+    none_wrong(&rt, first_wrong_of_child(&mut child, idle));
 }
 
 #[test]
 fn an_allowed_redirect_is_answered_once(rt: HostRuntime) {
-    let allow = ChildCall::Verdict(OK, Verdict::Allow);
-    let rows = [
-        ChildRow(allow, Some(Answer::Idle), None),
+    let rows = &[
+        ChildRow(ALLOW, Some(Answer::Idle), None),
         ChildRow(ChildCall::Begin(7), None, Some(7)),
         ChildRow(
             ChildCall::Answer(OK, Verdict::Allow),
-            verify(7, OK),
+            Some(Answer::Verify { hop: 7, status: OK }),
             Some(7),
         ),
-        ChildRow(allow, verify(7, OK), None),
-        ChildRow(allow, Some(Answer::Idle), None),
+        ChildRow(ALLOW, Some(Answer::Verify { hop: 7, status: OK }), None),
+        ChildRow(ALLOW, Some(Answer::Idle), None),
         ChildRow(
             ChildCall::Answer(RESET, Verdict::Allow),
             Some(Answer::Idle),
@@ -170,42 +168,80 @@ fn an_allowed_redirect_is_answered_once(rt: HostRuntime) {
         ),
         ChildRow(ChildCall::Begin(0), None, Some(0)),
         ChildRow(ChildCall::Begin(31), None, Some(31)),
-        ChildRow(allow, verify(31, OK), None),
+        ChildRow(
+            ALLOW,
+            Some(Answer::Verify {
+                hop: 31,
+                status: OK,
+            }),
+            None,
+        ),
     ];
-    assert_eq!(rt; first_wrong_of_child(&mut ChildHalf::new(), &rows), None);
+    none_wrong(&rt, first_wrong_of_child(&mut ChildHalf::new(), rows));
 }
 
 #[test]
 fn a_veto_is_sent_unless_the_child_has_failed(rt: HostRuntime) {
-    let veto = Verdict::Veto(REFUSED);
-    let odd = Status(0x7fff_ffff);
-    let rows = [
+    const VETO: Verdict = Verdict::Veto(REFUSED);
+    const ODD: Status = Status(0x7fff_ffff);
+    let rows = &[
         ChildRow(ChildCall::Begin(3), None, Some(3)),
-        ChildRow(ChildCall::Answer(OK, veto), verify(3, REFUSED), Some(3)),
-        ChildRow(ChildCall::Verdict(OK, veto), verify(3, REFUSED), None),
+        ChildRow(
+            ChildCall::Answer(OK, VETO),
+            Some(Answer::Verify {
+                hop: 3,
+                status: REFUSED,
+            }),
+            Some(3),
+        ),
+        ChildRow(
+            ChildCall::Verdict(OK, VETO),
+            Some(Answer::Verify {
+                hop: 3,
+                status: REFUSED,
+            }),
+            None,
+        ),
         ChildRow(ChildCall::Begin(3), None, Some(3)),
-        ChildRow(ChildCall::Verdict(RESET, veto), verify(3, RESET), None),
+        ChildRow(
+            ChildCall::Verdict(RESET, VETO),
+            Some(Answer::Verify {
+                hop: 3,
+                status: RESET,
+            }),
+            None,
+        ),
         ChildRow(ChildCall::Begin(4), None, Some(4)),
         ChildRow(
             ChildCall::Verdict(RESET, Verdict::Allow),
-            verify(4, RESET),
+            Some(Answer::Verify {
+                hop: 4,
+                status: RESET,
+            }),
             None,
         ),
         ChildRow(ChildCall::Begin(5), None, Some(5)),
-        ChildRow(ChildCall::Verdict(odd, veto), verify(5, REFUSED), None),
-        ChildRow(ChildCall::Verdict(RESET, veto), Some(Answer::Idle), None),
+        ChildRow(
+            ChildCall::Verdict(ODD, VETO),
+            Some(Answer::Verify {
+                hop: 5,
+                status: REFUSED,
+            }),
+            None,
+        ),
+        ChildRow(ChildCall::Verdict(RESET, VETO), Some(Answer::Idle), None),
     ];
-    assert_eq!(rt; first_wrong_of_child(&mut ChildHalf::new(), &rows), None);
+    none_wrong(&rt, first_wrong_of_child(&mut ChildHalf::new(), rows));
 }
 
 #[test]
 fn a_refused_redirect_closes_its_question_alone(rt: HostRuntime) {
-    let refuse = ParentAnswer::Verified(Verified::Refuse(RESET));
-    let rows = [
+    const REFUSE: ParentAnswer = ParentAnswer::Verified(Verified::Refuse(RESET));
+    let rows = &[
         ParentRow(ParentCall::Verified(0, RESET), STRAY, None, 0),
         ParentRow(ParentCall::Begin(0), ASK, Some(0), 0),
         ParentRow(ParentCall::Verified(1, RESET), STRAY, Some(0), 0),
-        ParentRow(ParentCall::Verified(0, RESET), refuse, None, 0),
+        ParentRow(ParentCall::Verified(0, RESET), REFUSE, None, 0),
         ParentRow(ParentCall::Verified(0, RESET), STRAY, None, 0),
         ParentRow(ParentCall::Begin(2), ASK, Some(2), 0),
         ParentRow(
@@ -223,5 +259,5 @@ fn a_refused_redirect_closes_its_question_alone(rt: HostRuntime) {
         ),
         ParentRow(ParentCall::Followed, ParentAnswer::Counted, None, 1),
     ];
-    assert_eq!(rt; first_wrong_of_parent(&mut ParentHalf::new(), &rows), None);
+    none_wrong(&rt, first_wrong_of_parent(&mut ParentHalf::new(), rows));
 }

@@ -1,11 +1,14 @@
 // The data target of a channel: the worker that its data is moved to, and the refusals in their order.
 
+use crate::rows::none_wrong;
 use nk_base::{RetargetError, Status, Target};
 use nk_retarget::{ChannelView, Delivery};
 
 /// How a channel stands, the worker that is asked for, the answer, and where data is delivered then.
 #[derive(Clone, Copy, Drop)]
 struct Row(ChannelView, u8, Result<(), RetargetError>, Target);
+
+const ABORTED: Status = Status::BINDING_ABORTED;
 
 /// A channel that data may be moved of.
 const GOOD: ChannelView = ChannelView {
@@ -18,7 +21,7 @@ const GOOD: ChannelView = ChannelView {
 const BAD: ChannelView = ChannelView {
     opened: false,
     stopped: true,
-    status: Status::BINDING_ABORTED,
+    status: ABORTED,
 };
 
 /// The answer; none where there is no such worker.
@@ -49,41 +52,40 @@ fn first_wrong(retargetable: bool, rows: &[Row]) -> Option<usize> {
 
 #[test]
 fn a_retarget_names_why_it_is_refused(rt: HostRuntime) {
-    let aborted = Status::BINDING_ABORTED;
-    let unopened = ChannelView {
+    const UNOPENED: ChannelView = ChannelView {
         opened: false,
         ..GOOD
     };
-    let stopped = ChannelView {
+    const STOPPED: ChannelView = ChannelView {
         stopped: true,
         ..GOOD
     };
-    let failed = ChannelView {
-        status: aborted,
+    const FAILED: ChannelView = ChannelView {
+        status: ABORTED,
         ..GOOD
     };
-    let one = Target::Worker(1);
-    let already = Err(RetargetError::AlreadyRetargeted(1));
-    let rows = [
-        Row(unopened, 1, Err(RetargetError::NotOpened), Target::Main),
-        Row(stopped, 1, Err(RetargetError::Stopped), Target::Main),
-        Row(failed, 1, Err(RetargetError::Failed(aborted)), Target::Main),
-        Row(GOOD, 1, Ok(()), one),
-        Row(GOOD, 1, already, one),
-        Row(GOOD, 16, already, one),
-        Row(unopened, 2, Err(RetargetError::NotOpened), one),
-        Row(stopped, 2, Err(RetargetError::Stopped), one),
-        Row(failed, 2, Err(RetargetError::Failed(aborted)), one),
+    const ONE: Target = Target::Worker(1);
+    const ALREADY: Result<(), RetargetError> = Err(RetargetError::AlreadyRetargeted(1));
+    let rows = &[
+        Row(UNOPENED, 1, Err(RetargetError::NotOpened), Target::Main),
+        Row(STOPPED, 1, Err(RetargetError::Stopped), Target::Main),
+        Row(FAILED, 1, Err(RetargetError::Failed(ABORTED)), Target::Main),
+        Row(GOOD, 1, Ok(()), ONE),
+        Row(GOOD, 1, ALREADY, ONE),
+        Row(GOOD, 16, ALREADY, ONE),
+        Row(UNOPENED, 2, Err(RetargetError::NotOpened), ONE),
+        Row(STOPPED, 2, Err(RetargetError::Stopped), ONE),
+        Row(FAILED, 2, Err(RetargetError::Failed(ABORTED)), ONE),
     ];
-    assert_eq!(rt; first_wrong(true, &rows), None);
-    let fixed = [Row(GOOD, 1, Err(RetargetError::NotRetargetable), Target::Main)];
-    assert_eq!(rt; first_wrong(false, &fixed), None);
+    none_wrong(&rt, first_wrong(true, rows));
+    let fixed = &[Row(GOOD, 1, Err(RetargetError::NotRetargetable), Target::Main)];
+    none_wrong(&rt, first_wrong(false, fixed));
 }
 
 #[test]
 fn of_several_refusals_the_first_is_named(rt: HostRuntime) {
-    let failed = Err(RetargetError::Failed(Status::BINDING_ABORTED));
-    let rows = [
+    const FAILED: Result<(), RetargetError> = Err(RetargetError::Failed(ABORTED));
+    let rows = &[
         Row(BAD, 3, Err(RetargetError::NotOpened), Target::Main),
         Row(
             ChannelView {
@@ -100,20 +102,20 @@ fn of_several_refusals_the_first_is_named(rt: HostRuntime) {
                 ..GOOD
             },
             3,
-            failed,
+            FAILED,
             Target::Main,
         ),
         Row(GOOD, 3, Err(RetargetError::NotRetargetable), Target::Main),
     ];
-    assert_eq!(rt; first_wrong(false, &rows), None);
+    none_wrong(&rt, first_wrong(false, rows));
 }
 
 #[test]
 fn a_status_that_is_no_failure_refuses_nothing(rt: HostRuntime) {
-    let odd = ChannelView {
+    const ODD: ChannelView = ChannelView {
         status: Status(0x7fff_ffff),
         ..GOOD
     };
-    let last = [Row(odd, 16, Ok(()), Target::Worker(16))];
-    assert_eq!(rt; first_wrong(true, &last), None);
+    let last = &[Row(ODD, 16, Ok(()), Target::Worker(16))];
+    none_wrong(&rt, first_wrong(true, last));
 }

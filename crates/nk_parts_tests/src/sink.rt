@@ -4,6 +4,7 @@ ghost use Rattle.std.specs.Prelude.{IsTrue};
 ghost use Rattle.nk_sink.specs.Reached.{IsGoodKind};
 ghost use Rattle.nk_sink.specs.Lent.{IsThere};
 
+use crate::rows::none_wrong;
 use nk_base::{Entry, Fields, Moved, Piece, Status};
 use nk_pipe::{Pipe, Write};
 use nk_plan::{ListenerKind, Readers};
@@ -131,13 +132,12 @@ fn are_ends(readers: &Readers, ends: &[End]) -> bool {
 
 /// Whether these are the ends of the readers, of a listener that has kept all that it was shown.
 fn ends_are(listener: Listener, ends: &[End]) -> bool {
-    if listener.has_failed() || usize::from(listener.readers()) != ends.len() {
-        return false;
-    }
+    let is_whole = !listener.has_failed() && usize::from(listener.readers()) == ends.len();
     let shown = listener.entries().len();
     let (entries, readers) = listener.into_parts();
+    let are_kept = entries.len() == shown;
     match readers {
-        Ok(readers) => entries.len() == shown && are_ends(&readers, ends),
+        Ok(readers) => is_whole && are_kept && are_ends(&readers, ends),
         Err(_) => false,
     }
 }
@@ -169,16 +169,16 @@ fn first_wrong(
     let Ok(mut listener) = Listener::new(alloc, kind) else {
         return Some(0);
     };
-    if let Some(i) = first_wrong_of_calls(alloc, &mut listener, rows) {
-        return Some(i);
+    let wrong = first_wrong_of_calls(alloc, &mut listener, rows);
+    let is_kind = listener.kind() == kind;
+    let are_so = ends_are(listener, ends) && is_kind;
+    if wrong.is_none() && !are_so {
+        return Some(rows.len());
     }
-    if listener.kind() == kind && ends_are(listener, ends) {
-        return None;
-    }
-    Some(rows.len())
+    wrong
 }
 
-const fn pipe(limit: u32, readers: u8) -> ListenerKind {
+fn pipe(limit: u32, readers: u8) -> ListenerKind {
     ListenerKind::Pipe {
         segment: 4,
         limit,
@@ -188,7 +188,7 @@ const fn pipe(limit: u32, readers: u8) -> ListenerKind {
 
 #[test]
 fn two_readers_have_all_bytes_and_the_stop(rt: HostRuntime) {
-    let rows = [
+    let rows = &[
         (Call::Start, Answer::Done),
         (Call::Bytes(0, 20), Answer::Done),
         (Call::Stop(OK), Answer::Done),
@@ -211,13 +211,13 @@ fn two_readers_have_all_bytes_and_the_stop(rt: HostRuntime) {
         (Call::Read(3), IDLE),
         (Call::Read(0), IDLE),
     ];
-    let ends = [End(20, Some(OK)), End(20, Some(OK))];
-    assert_eq!(rt; first_wrong(rt.alloc(), pipe(2, 2), &rows, &ends), None);
+    let ends = &[End(20, Some(OK)), End(20, Some(OK))];
+    none_wrong(&rt, first_wrong(rt.alloc(), pipe(2, 2), rows, ends));
 }
 
 #[test]
 fn a_reader_waits_for_what_is_kept(rt: HostRuntime) {
-    let rows = [
+    let rows = &[
         (Call::Start, Answer::Done),
         (Call::Bytes(0, 6), Answer::Done),
         (Call::Read(1), DID),
@@ -225,15 +225,15 @@ fn a_reader_waits_for_what_is_kept(rt: HostRuntime) {
         (Call::Read(1), DID),
         (Call::Read(1), IDLE),
     ];
-    assert_eq!(rt;
-        first_wrong(rt.alloc(), pipe(1, 1), &rows, &[End(6, None)]),
-        None
+    none_wrong(
+        &rt,
+        first_wrong(rt.alloc(), pipe(1, 1), rows, &[End(6, None)]),
     );
 }
 
 #[test]
 fn an_entry_behind_a_stop_changes_no_pipe(rt: HostRuntime) {
-    let rows = [
+    let rows = &[
         (Call::Start, Answer::Done),
         (Call::Bytes(0, 20), Answer::Done),
         (Call::Stop(RESET), Answer::Done),
@@ -249,15 +249,15 @@ fn an_entry_behind_a_stop_changes_no_pipe(rt: HostRuntime) {
         (Call::Read(1), DID),
         (Call::Read(1), IDLE),
     ];
-    assert_eq!(rt;
-        first_wrong(rt.alloc(), pipe(1, 1), &rows, &[End(20, Some(RESET))]),
-        None
+    none_wrong(
+        &rt,
+        first_wrong(rt.alloc(), pipe(1, 1), rows, &[End(20, Some(RESET))]),
     );
 }
 
 #[test]
 fn a_plain_listener_keeps_the_entries_alone(rt: HostRuntime) {
-    let rows = [
+    let rows = &[
         (Call::Start, Answer::Done),
         (Call::Bytes(0, 20), Answer::Done),
         (Call::Stop(OK), Answer::Done),
@@ -266,15 +266,12 @@ fn a_plain_listener_keeps_the_entries_alone(rt: HostRuntime) {
         (Call::Bytes(20, 21), Answer::Done),
         (Call::Entries, Answer::Number(4)),
     ];
-    assert_eq!(rt;
-        first_wrong(rt.alloc(), ListenerKind::Plain, &rows, &[]),
-        None
-    );
+    none_wrong(&rt, first_wrong(rt.alloc(), ListenerKind::Plain, rows, &[]));
 }
 
 #[test]
 fn the_furthest_reader_makes_room_for_what_is_kept(rt: HostRuntime) {
-    let rows = [
+    let rows = &[
         (Call::Read(1), DID),
         (Call::Read(1), IDLE),
         (Call::Start, Answer::Done),
@@ -298,10 +295,10 @@ fn the_furthest_reader_makes_room_for_what_is_kept(rt: HostRuntime) {
         (Call::Read(2), DID),
         (Call::Entries, Answer::Number(4)),
     ];
-    let none = End(0, None);
-    let all = End(9, Some(OK));
-    let ends = [all, End(4, None), none, none, none, none, none, all];
-    assert_eq!(rt; first_wrong(rt.alloc(), pipe(1, 8), &rows, &ends), None);
+    const NONE: End = End(0, None);
+    const ALL: End = End(9, Some(OK));
+    let ends = &[ALL, End(4, None), NONE, NONE, NONE, NONE, NONE, ALL];
+    none_wrong(&rt, first_wrong(rt.alloc(), pipe(1, 8), rows, ends));
 }
 
 /// Whether a reader of this number was made.
@@ -389,24 +386,34 @@ fn first_wrong_of(
     None
 }
 
-/// The same for a new pump over a new pipe.
+/// The same for a new pump.
 fn first_wrong_of_pump(
+    alloc: Global,
+    pipe: &mut Pipe,
+    rows: &[(PumpCall, PumpAnswer)],
+    shown: &[u8],
+) -> Option<usize> {
+    match Pump::new(alloc, 4) {
+        Ok(mut pump) => first_wrong_of(&mut pump, pipe, rows, shown),
+        Err(_) => Some(0),
+    }
+}
+
+/// The same for a new pump over a new pipe.
+fn first_wrong_of_both(
     alloc: Global,
     rows: &[(PumpCall, PumpAnswer)],
     shown: &[u8],
 ) -> Option<usize> {
-    let Ok((mut pipe, 1)) = Pipe::new(alloc, 4, 2) else {
-        return Some(0);
-    };
-    match Pump::new(alloc, 4) {
-        Ok(mut pump) => first_wrong_of(&mut pump, &mut pipe, rows, shown),
-        Err(_) => Some(0),
+    match Pipe::new(alloc, 4, 2) {
+        Ok((mut pipe, 1)) => first_wrong_of_pump(alloc, &mut pipe, rows, shown),
+        _ => Some(0),
     }
 }
 
 #[test]
 fn a_cancel_closes_the_only_reader_and_so_the_pipe(rt: HostRuntime) {
-    let rows = [
+    let rows = &[
         (PumpCall::Write(3), PumpAnswer::Write(Write::Wrote(3))),
         (PumpCall::Turn(1), PumpAnswer::Turn(Turn::Did)),
         (PumpCall::Turn(1), PumpAnswer::Turn(Turn::Did)),
@@ -421,5 +428,5 @@ fn a_cancel_closes_the_only_reader_and_so_the_pipe(rt: HostRuntime) {
             PumpAnswer::Write(Write::Closed(ABORTED)),
         ),
     ];
-    assert_eq!(rt; first_wrong_of_pump(rt.alloc(), &rows, b"abc"), None);
+    none_wrong(&rt, first_wrong_of_both(rt.alloc(), rows, b"abc"));
 }

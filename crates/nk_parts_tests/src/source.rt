@@ -1,5 +1,6 @@
 // The source of a body: its pieces at their offsets, and then the end, again and again.
 
+use crate::rows::none_wrong;
 use nk_base::{Fields, Head, Memory, Piece, Status};
 use nk_plan::{Finish, Hop, Pieces};
 use nk_source::{Next, ResponseSource};
@@ -116,8 +117,8 @@ fn first_wrong_of(
 
 #[test]
 fn pieces_come_at_their_offsets_and_then_the_end(rt: HostRuntime) {
-    let cut = Finish::Fail(Status::NET_RESET);
-    let rows = [
+    const CUT: Finish = Finish::Fail(Status::NET_RESET);
+    let rows = &[
         (Call::Size, Answer::Size(Some(3))),
         (Call::Next, Answer::Piece(0, 3)),
         (Call::Size, Answer::Size(Some(2))),
@@ -127,12 +128,12 @@ fn pieces_come_at_their_offsets_and_then_the_end(rt: HostRuntime) {
         (Call::Next, Answer::EndFail(Status::NET_RESET)),
         (Call::Size, Answer::Size(None)),
     ];
-    assert_eq!(rt; first_wrong_of(rt.alloc(), &[3, 2], cut, &rows), None);
+    none_wrong(&rt, first_wrong_of(rt.alloc(), &[3, 2], CUT, rows));
 }
 
 #[test]
 fn a_look_at_the_next_changes_nothing(rt: HostRuntime) {
-    let rows = [
+    let rows = &[
         (Call::Peek, Answer::Piece(0, 1)),
         (Call::Peek, Answer::Piece(0, 1)),
         (Call::Advance, Answer::Done),
@@ -144,19 +145,19 @@ fn a_look_at_the_next_changes_nothing(rt: HostRuntime) {
         (Call::Next, Answer::EndOk),
         (Call::Next, Answer::EndOk),
     ];
-    assert_eq!(rt;
-        first_wrong_of(rt.alloc(), &[1, 4, 3], Finish::Good, &rows),
-        None
+    none_wrong(
+        &rt,
+        first_wrong_of(rt.alloc(), &[1, 4, 3], Finish::Good, rows),
     );
 }
 
 #[test]
 fn a_load_without_a_body_is_at_its_end(rt: HostRuntime) {
-    let rows = [
+    let rows = &[
         (Call::Size, Answer::Size(None)),
         (Call::Peek, Answer::EndOk),
         (Call::Next, Answer::EndOk),
     ];
-    assert_eq!(rt; first_wrong(ResponseSource::empty(rt.alloc()), &rows), None);
-    assert_eq!(rt; first_wrong_of(rt.alloc(), &[], Finish::Good, &rows), None);
+    none_wrong(&rt, first_wrong(ResponseSource::empty(rt.alloc()), rows));
+    none_wrong(&rt, first_wrong_of(rt.alloc(), &[], Finish::Good, rows));
 }

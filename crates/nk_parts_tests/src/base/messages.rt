@@ -1,6 +1,7 @@
 // Messages, as they are shared and compared.
 
 use super::fields;
+use crate::rows::none_wrong;
 use nk_base::{BackMsg, Entry, Fields, Head, MainMsg, Memory, Piece, Status, UpMsg};
 use std::alloc::Global;
 
@@ -17,9 +18,14 @@ pub(crate) trait Numbered: Drop {
     fn is(&self, other: &Self) -> bool;
 }
 
+/// A share of what is made by this number.
+pub(crate) fn share_of<M: Numbered>(alloc: Global, number: usize) -> Option<M> {
+    M::numbered(alloc, number)?.shared().ok()
+}
+
 /// Whether what is made by one number is as a share of what is made by another.
-fn is_as<M: Numbered>(alloc: Global, one: usize, other: usize) -> Option<bool> {
-    let share = M::numbered(alloc, other)?.shared().ok()?;
+pub(crate) fn is_as<M: Numbered>(alloc: Global, one: usize, other: usize) -> Option<bool> {
+    let share = share_of::<M>(alloc, other)?;
     let made = M::numbered(alloc, one)?;
     Some(made.is(&share))
 }
@@ -170,11 +176,8 @@ impl Numbered for Entry {
 #[test]
 fn messages_are_shared_whole(rt: HostRuntime) {
     let alloc = rt.alloc();
-    let confused = [
-        first_confused::<MainMsg>(alloc, 5),
-        first_confused::<BackMsg>(alloc, 6),
-        first_confused::<UpMsg>(alloc, 7),
-        first_confused::<Entry>(alloc, 4),
-    ];
-    assert_eq!(rt; confused, [None; 4]);
+    none_wrong(&rt, first_confused::<MainMsg>(alloc, 5));
+    none_wrong(&rt, first_confused::<BackMsg>(alloc, 6));
+    none_wrong(&rt, first_confused::<UpMsg>(alloc, 7));
+    none_wrong(&rt, first_confused::<Entry>(alloc, 4));
 }

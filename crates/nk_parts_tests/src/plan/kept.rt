@@ -1,7 +1,8 @@
 // Plans as they are shared and compared, and entries and journals as they are kept.
 
 use super::{FAILS, Met, OK, Parts, REDIRECTS, RESET, RESUME, made, plan_of};
-use crate::base::{Numbered, first_confused};
+use crate::base::{Numbered, first_confused, is_as, share_of};
+use crate::rows::{none_wrong, right};
 use nk_base::{ByteList, Class, Classed, Entry, Memory, Piece, Status, Target, UpMsg};
 use nk_plan::{
     ChannelEnd, ChannelPlan, ChildEntry, ChildEvent, ChildJournal, Ending, Ends, Finish,
@@ -118,21 +119,18 @@ fn kept(alloc: Global, plan: ChannelPlan) -> Option<usize> {
     Some(plans.len())
 }
 
-/// Whether a plan is the same as a share of the plan with another window, and how many there are once the share is kept.
-fn shared(alloc: Global) -> Option<(bool, usize)> {
-    let plan = ChannelPlan::numbered(alloc, 0)?;
-    let share = ChannelPlan::numbered(alloc, 1)?.share().ok()?;
-    let is_same = plan.same(&share);
-    Some((is_same, kept(alloc, share)?))
+/// How many plans there are once a share of the plan of this number is kept.
+fn kept_share(alloc: Global, number: usize) -> Option<usize> {
+    let share = share_of::<ChannelPlan>(alloc, number)?;
+    kept(alloc, share)
 }
 
 #[test]
 fn a_plan_is_made_shared_and_compared(rt: HostRuntime) {
-    let seen = (
-        first_confused::<ChannelPlan>(rt.alloc(), 15),
-        shared(rt.alloc()),
-    );
-    assert_eq!(rt; seen, (None, Some((false, 1))));
+    let alloc = rt.alloc();
+    none_wrong(&rt, first_confused::<ChannelPlan>(alloc, 15));
+    right(&rt, is_as::<ChannelPlan>(alloc, 0, 1) == Some(false));
+    right(&rt, kept_share(alloc, 1) == Some(1));
 }
 
 /// Puts a reader and something of each list into the end of a channel.
@@ -168,27 +166,27 @@ fn counts(alloc: Global) -> Option<([usize; 4], usize)> {
         child: ChildJournal::new(alloc),
         forwarded: 0,
     };
-    fill(alloc, &mut end)?;
+    let filled = fill(alloc, &mut end);
     let counts = [
         end.trace.len(),
         end.readers.len(),
         end.parent.len(),
         end.child.len(),
     ];
-    Some((counts, kept_end(alloc, end)?))
+    let kept = kept_end(alloc, end);
+    filled?;
+    Some((counts, kept?))
 }
 
 #[test]
 fn entries_are_kept(rt: HostRuntime) {
-    assert_eq!(rt; counts(rt.alloc()), Some(([1; 4], 1)));
+    right(&rt, counts(rt.alloc()) == Some(([1; 4], 1)));
 }
 
 #[test]
 fn entries_of_journals_are_small(rt: HostRuntime) {
-    assert_eq!(rt;
-        [size_of::<ParentEntry>(), size_of::<ChildEntry>()],
-        [48, 48]
-    );
+    right(&rt, size_of::<ParentEntry>() == 48);
+    right(&rt, size_of::<ChildEntry>() == 48);
 }
 
 /// The class of one event of each kind.
@@ -212,7 +210,7 @@ fn classes(alloc: Global) -> Option<[Class; 6]> {
 
 #[test]
 fn data_alone_goes_where_data_is_delivered(rt: HostRuntime) {
-    let main = Class::Fixed(Target::Main);
-    let all = [main, Class::Delivery, main, main, main, main];
-    assert_eq!(rt; classes(rt.alloc()), Some(all));
+    const MAIN: Class = Class::Fixed(Target::Main);
+    let all = [MAIN, Class::Delivery, MAIN, MAIN, MAIN, MAIN];
+    right(&rt, classes(rt.alloc()) == Some(all));
 }

@@ -1,22 +1,14 @@
 // What the listener does and what the page calls, and the window: where a plan is refused for them.
 
-use super::{EMPTY, FAILS, Met, OK, Parts, REDIRECTS, RESET, RESUME, body, meets, plan_of};
+use super::{EMPTY, FAILS, Met, OK, Parts, REDIRECTS, RESET, RESUME, meets, plan_of};
+use crate::rows::none_wrong;
 use nk_base::Status;
 use nk_plan::{Act, Control, Finish, ListenerKind, PlanError, Reaction, Verdict};
 use std::alloc::Global;
 
-/// A pipe with these sizes, and so many readers.
-const fn pipe(segment: u32, limit: u32, readers: u8) -> ListenerKind {
-    ListenerKind::Pipe {
-        segment,
-        limit,
-        readers,
-    }
-}
-
-/// A body of so many pieces of this size, a listener for it, and whether the listener is good.
+/// A body of so many pieces of this size, the sizes of a pipe for it and its readers, and whether such a listener is good.
 #[derive(Clone, Copy, Drop)]
-struct PipeRow(usize, usize, ListenerKind, bool);
+struct PipeRow(usize, usize, u32, u32, u8, bool);
 
 /// Whether a plan is refused with this cause, or not refused where it is good.
 fn is_so(alloc: Global, parts: Parts, is_good: bool, cause: PlanError) -> bool {
@@ -24,13 +16,22 @@ fn is_so(alloc: Global, parts: Parts, is_good: bool, cause: PlanError) -> bool {
     meets(alloc, parts, wanted)
 }
 
-/// The number of the first row whose plan is not refused for its listener exactly where the row says so.
+/// Whether a plan is refused for its listener exactly where this row says so.
+fn is_pipe_so(alloc: Global, row: &PipeRow) -> bool {
+    let hops = [Met::Response(row.0, row.1, Finish::Good, 0, true)];
+    let mut parts = plan_of(&hops);
+    parts.listener = ListenerKind::Pipe {
+        segment: row.2,
+        limit: row.3,
+        readers: row.4,
+    };
+    is_so(alloc, parts, row.5, PlanError::BadListener)
+}
+
+/// The number of the first row that is not so.
 fn first_wrong_pipe(alloc: Global, rows: &[PipeRow]) -> Option<usize> {
     for (i, row) in rows.iter().enumerate() {
-        let hops = [body(row.0, row.1)];
-        let mut parts = plan_of(&hops);
-        parts.listener = row.2;
-        if !is_so(alloc, parts, row.3, PlanError::BadListener) {
+        if !is_pipe_so(alloc, row) {
             return Some(i);
         }
     }
@@ -39,22 +40,22 @@ fn first_wrong_pipe(alloc: Global, rows: &[PipeRow]) -> Option<usize> {
 
 #[test]
 fn a_pipe_is_refused_by_its_sizes_and_by_what_is_read(rt: HostRuntime) {
-    let rows = [
-        PipeRow(31, 131_072, pipe(4, 1, 1), false),
-        PipeRow(1, 9, pipe(4, 1, 1), true),
-        PipeRow(1, 9, pipe(3, 1, 1), false),
-        PipeRow(1, 9, pipe(65_536, 1024, 8), true),
-        PipeRow(1, 9, pipe(65_537, 1024, 8), false),
-        PipeRow(1, 9, pipe(4, 0, 1), false),
-        PipeRow(1, 9, pipe(4, 1025, 1), false),
-        PipeRow(1, 9, pipe(4, 1, 0), false),
-        PipeRow(1, 9, pipe(4, 1, 9), false),
-        PipeRow(40, 100_000, pipe(4, 1, 1), true),
-        PipeRow(7, 122_449, pipe(6, 1, 7), false),
-        PipeRow(512, 131_072, pipe(65_536, 1, 2), true),
-        PipeRow(512, 131_072, pipe(65_536, 1, 3), false),
+    let rows = &[
+        PipeRow(31, 131_072, 4, 1, 1, false),
+        PipeRow(1, 9, 4, 1, 1, true),
+        PipeRow(1, 9, 3, 1, 1, false),
+        PipeRow(1, 9, 65_536, 1024, 8, true),
+        PipeRow(1, 9, 65_537, 1024, 8, false),
+        PipeRow(1, 9, 4, 0, 1, false),
+        PipeRow(1, 9, 4, 1025, 1, false),
+        PipeRow(1, 9, 4, 1, 0, false),
+        PipeRow(1, 9, 4, 1, 9, false),
+        PipeRow(40, 100_000, 4, 1, 1, true),
+        PipeRow(7, 122_449, 6, 1, 7, false),
+        PipeRow(512, 131_072, 65_536, 1, 2, true),
+        PipeRow(512, 131_072, 65_536, 1, 3, false),
     ];
-    assert_eq!(rt; first_wrong_pipe(rt.alloc(), &rows), None);
+    none_wrong(&rt, first_wrong_pipe(rt.alloc(), rows));
 }
 
 /// What the listener does or the page calls, or a window, and whether it may stand in a plan.
@@ -96,13 +97,9 @@ fn first_wrong(alloc: Global, rows: &[PageRow]) -> Option<usize> {
     None
 }
 
-const fn bytes_fail(nth: u32, status: Status) -> Reaction {
-    Reaction::BytesFail { nth, status }
-}
-
 #[test]
 fn what_the_page_does_is_refused_where_it_is_out_of_range(rt: HostRuntime) {
-    let rows = [
+    let rows = &[
         PageRow::Reacts(Reaction::StartRetarget(0), false),
         PageRow::Reacts(Reaction::StartRetarget(1), true),
         PageRow::Reacts(Reaction::StartRetarget(16), true),
@@ -111,11 +108,35 @@ fn what_the_page_does_is_refused_where_it_is_out_of_range(rt: HostRuntime) {
         PageRow::Reacts(Reaction::StartCancel(OK), false),
         PageRow::Reacts(Reaction::StartFail(RESET), true),
         PageRow::Reacts(Reaction::StartFail(Status(1)), false),
-        PageRow::Reacts(bytes_fail(0, RESET), false),
-        PageRow::Reacts(bytes_fail(1, RESET), true),
-        PageRow::Reacts(bytes_fail(1, OK), false),
-        PageRow::Reacts(bytes_fail(65_536, RESET), true),
-        PageRow::Reacts(bytes_fail(65_537, RESET), false),
+        PageRow::Reacts(
+            Reaction::BytesFail {
+                nth: 0,
+                status: RESET,
+            },
+            false,
+        ),
+        PageRow::Reacts(
+            Reaction::BytesFail {
+                nth: 1,
+                status: RESET,
+            },
+            true,
+        ),
+        PageRow::Reacts(Reaction::BytesFail { nth: 1, status: OK }, false),
+        PageRow::Reacts(
+            Reaction::BytesFail {
+                nth: 65_536,
+                status: RESET,
+            },
+            true,
+        ),
+        PageRow::Reacts(
+            Reaction::BytesFail {
+                nth: 65_537,
+                status: RESET,
+            },
+            false,
+        ),
         PageRow::Calls(100_000, Act::Suspend, true),
         PageRow::Calls(100_001, Act::Suspend, false),
         PageRow::Calls(0, Act::Cancel(RESET), true),
@@ -131,7 +152,7 @@ fn what_the_page_does_is_refused_where_it_is_out_of_range(rt: HostRuntime) {
         PageRow::Window(16_777_216, true),
         PageRow::Window(16_777_217, false),
     ];
-    assert_eq!(rt; first_wrong(rt.alloc(), &rows), None);
+    none_wrong(&rt, first_wrong(rt.alloc(), rows));
 }
 
 /// What the listener does, so many calls of the page, each after one callback more, or what the page calls in a plan
@@ -189,8 +210,8 @@ const ONE_SUSPEND_MORE: &[Reaction] = &[Reaction::StartSuspend; 65];
 
 #[test]
 fn the_page_and_its_listener_are_refused(rt: HostRuntime) {
-    let first = Some(PlanError::BadControl(0));
-    let rows = [
+    const FIRST: Option<PlanError> = Some(PlanError::BadControl(0));
+    let rows = &[
         (
             Listed::Reactions(BAD_REACTION),
             Some(PlanError::BadReaction(0)),
@@ -202,11 +223,17 @@ fn the_page_and_its_listener_are_refused(rt: HostRuntime) {
         ),
         (Listed::Calls(64), None),
         (Listed::Calls(65), Some(PlanError::BadControl(64))),
-        (Listed::Closed(&[RESUME]), first),
+        (Listed::Closed(&[RESUME]), FIRST),
         (Listed::Closed(&[]), None),
     ];
-    assert_eq!(rt; first_wrong_list(rt.alloc(), &rows), None);
+    none_wrong(&rt, first_wrong_list(rt.alloc(), rows));
 }
+
+const NO_PIPE: ListenerKind = ListenerKind::Pipe {
+    segment: 0,
+    limit: 0,
+    readers: 0,
+};
 
 const NO_HOP: Met = Met::Redirect(200, Verdict::Allow);
 
@@ -231,7 +258,7 @@ fn hops_of(row: usize) -> &'static [Met] {
 fn is_first_named(alloc: Global, row: usize, cause: PlanError) -> bool {
     let mut parts = plan_of(hops_of(row));
     parts.listener = if row < 8 {
-        pipe(0, 0, 0)
+        NO_PIPE
     } else {
         ListenerKind::Plain
     };
@@ -258,7 +285,7 @@ fn first_unnamed(alloc: Global, causes: &[PlanError]) -> Option<usize> {
 
 #[test]
 fn of_several_refusals_of_a_plan_the_first_is_named(rt: HostRuntime) {
-    let causes = [
+    let causes = &[
         PlanError::NoHop,
         PlanError::TooManyHops(33),
         PlanError::LastIsRedirect,
@@ -271,5 +298,5 @@ fn of_several_refusals_of_a_plan_the_first_is_named(rt: HostRuntime) {
         PlanError::BadControl(0),
         PlanError::BadWindow,
     ];
-    assert_eq!(rt; first_unnamed(rt.alloc(), &causes), None);
+    none_wrong(&rt, first_unnamed(rt.alloc(), causes));
 }
