@@ -3,4 +3,5 @@ pub mod Left
 pub mod Got
 pub mod Given
 pub mod Memory
+pub mod Told
 pub mod Standard

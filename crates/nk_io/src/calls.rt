@@ -3,7 +3,8 @@ ghost use Rattle.std.specs.Prelude.{◌≡◌, [], if◌then◌else◌, false};
 ghost use Rattle.nk_io.specs.Faults.{one_more};
 ghost use Rattle.nk_io.specs.Memory.{fails_next};
 
-/// The calls that fail, by number from 1, how many calls were made, and how many of them failed.
+/// The calls that fail, by number from 1, how many calls were made, and how many of them failed. Both
+/// counts stay at the last value of a `u64` once they are there.
 #[derive(Debug, Drop)]
 pub struct Calls {
     fails: Vec<u64>,

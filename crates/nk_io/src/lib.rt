@@ -9,12 +9,14 @@ mod memory_source;
 mod retrying;
 mod sink;
 mod source;
-mod standard;
+mod standard_sink;
+mod standard_source;
 mod whole;
 
 pub use memory_sink::{MemSink, SureSink};
 pub use memory_source::{MemSource, SureSource};
 pub use sink::{Put, Sink};
 pub use source::{Source, Take};
-pub use standard::{StdSink, StdSource};
+pub use standard_sink::StdSink;
+pub use standard_source::StdSource;
 pub use whole::{ReadError, WriteFault, read_all, write_all};
